@@ -1,0 +1,6 @@
+pub mod Layout
+pub mod Best
+pub mod Worked
+pub mod Price
+pub mod ToGo
+pub mod Chosen

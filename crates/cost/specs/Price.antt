@@ -1,0 +1,22 @@
+-- Costs as the code has them: exact below a limit, and all alike from there on. Assumes nothing: these are definitions.
+use mathlib.Core.Bool.{Bool, cond}
+use Prim.Native.Nat.{ℕ, suc, _+_}
+use lib.Dec.{ltb}
+use Rattle.cost.specs.Layout.{Layout}
+use Rattle.cost.specs.Best.{beyond, wins}
+use Rattle.cost.specs.declared.price.Cost.{Cost}
+
+abbrev pub beats : Cost → Cost → Bool
+beats a b = wins (a .beyond) (a .lines) (b .beyond) (b .lines)
+
+-- more bytes beyond the width than the longest layout that is not refused has bytes
+abbrev pub limit : ℕ
+limit = 131073
+
+-- so many beyond and so many lines; from the limit on, costs are not told apart
+abbrev pub capped : (beyond lines : ℕ) → Cost
+capped b l = cond (ltb b limit) (record { beyond = b; lines = l }) (record { beyond = limit; lines = 0 })
+
+-- what a layout costs
+abbrev pub price : ℕ → Layout → Cost
+price w s = capped (beyond w s) (s .lines)

@@ -1,0 +1,3 @@
+// What a layout costs, and which of two is better.
+pub mod laws;
+pub mod price;

@@ -1,0 +1,3 @@
+pub mod Doc
+pub mod Encoding
+pub mod Nodes

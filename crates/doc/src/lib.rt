@@ -1,0 +1,4 @@
+// Documents as bytes and as rows of nodes.
+pub mod node;
+pub mod nodes;
+mod reader;
