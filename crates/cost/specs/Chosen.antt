@@ -5,6 +5,7 @@ use mathlib.Core.List.{List, [], _∷_, _++_}
 use Prim.Native.Nat.{ℕ, zero, suc, _+_, min, _≤_, _<_}
 use lib.ListN.{length}
 use Rattle.doc.specs.Doc.{Doc, nil, text, cat, nest, line, group}
+use Rattle.doc.specs.Nodes.{size}
 use Rattle.cost.specs.Layout.{Layout, empty, with-text, with-line}
 use Rattle.cost.specs.Best.{beyond, best}
 use Rattle.cost.specs.Price.{beats, limit, price}
@@ -52,6 +53,6 @@ chosen w (group a) i m k s =
 -- the decisions make the best layout, or both are too long
 abbrev pub Chosen-best : Type 0
 Chosen-best =
-    (w : ℕ) (d : Doc) →
+    (w : ℕ) (d : Doc) → size d ≤ 65536 →
     (beyond w (best w d) < limit → chosen w d 0 Broken stop empty ≡ best w d)
     × (limit ≤ beyond w (best w d) → limit ≤ length (chosen w d 0 Broken stop empty .out))

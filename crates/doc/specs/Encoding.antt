@@ -1,5 +1,5 @@
 -- How documents are encoded in bytes. Assumes nothing: these are definitions.
-use mathlib.Core.Bool.{Bool, true, not, _&&_, cond}
+use mathlib.Core.Bool.{Bool, false, not, _&&_, _||_, cond}
 use mathlib.Core.List.{List, [], _∷_}
 use Prim.Native.Nat.{ℕ, zero, suc}
 use lib.Dec.{eqb, leb}
@@ -8,10 +8,10 @@ use Rattle.std.specs.declared.option.Option.{Option}
 use Rattle.std.specs.declared.option.Option.the-variants.{Some, None}
 use Rattle.doc.specs.Doc.{Doc, nil, text, cat, nest, line, group}
 
--- no byte of a text ends a line
-abbrev pub no-newline : List ℕ → Bool
-no-newline [] = true
-no-newline (c ∷ cs) = not (eqb c 10) && no-newline cs
+-- some byte ends a line, as none of a text may
+abbrev pub has-newline : List ℕ → Bool
+has-newline [] = false
+has-newline (c ∷ cs) = eqb c 10 || has-newline cs
 
 -- what is read from the front of some bytes: no document, or one and the bytes behind it
 pub data Parse : Type 0 where
@@ -25,7 +25,7 @@ then-read (doc d bs) f = f d bs
 
 -- a text of n bytes
 abbrev pub read-text : ℕ → List ℕ → Parse
-read-text n bs = cond (leb n (length bs) && no-newline (take n bs)) (doc (text (take n bs)) (drop n bs)) no-doc
+read-text n bs = cond (leb n (length bs) && not (has-newline (take n bs))) (doc (text (take n bs)) (drop n bs)) no-doc
 
 -- one byte, and what is read behind it
 abbrev pub read-byte : List ℕ → (ℕ → List ℕ → Parse) → Parse

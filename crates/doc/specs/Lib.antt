@@ -1,3 +1,4 @@
 pub mod Doc
 pub mod Encoding
 pub mod Nodes
+pub mod Reading

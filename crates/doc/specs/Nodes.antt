@@ -1,12 +1,12 @@
 -- The row of nodes that a document lays down. Assumes nothing: these are definitions.
 use mathlib.Core.Path.{_≡_}
-use mathlib.Core.Bool.{true}
+use mathlib.Core.Bool.{false}
 use mathlib.Core.List.{List, [], _∷_, _++_}
 use Prim.Native.Nat.{ℕ, suc, _+_, _≤_}
 use lib.ListN.{length, take, drop}
 use Rattle.std.specs.declared.option.Option.the-variants.{Some}
 use Rattle.doc.specs.Doc.{Doc, nil, text, cat, nest, line, group}
-use Rattle.doc.specs.Encoding.{no-newline, decode}
+use Rattle.doc.specs.Encoding.{has-newline, decode}
 use Rattle.doc.specs.declared.node.Kind.{Kind}
 use Rattle.doc.specs.declared.node.Kind.the-variants.{Nil, Text, Cat, Nest, Line, Group}
 use Rattle.doc.specs.declared.node.Node.{Node}
@@ -46,7 +46,7 @@ laid (group a) p x = node Group (x + size (group a)) ∷ laid a (p + 1) (x + 1)
 -- the texts of a document whose encoding begins at byte p stand in s, with none too long, and no nest is too large
 unfoldable pub Spelled : List ℕ → Doc → ℕ → Type 0
 Spelled s nil p = Unit {0}
-Spelled s (text t) p = (take (length t) (drop (p + 2) s) ≡ t) × (p + 2 + length t ≤ length s) × (length t ≤ 255) × (no-newline t ≡ true)
+Spelled s (text t) p = (take (length t) (drop (p + 2) s) ≡ t) × (p + 2 + length t ≤ length s) × (length t ≤ 255) × (has-newline t ≡ false)
 Spelled s (cat a b) p = Spelled s a (p + 1) × Spelled s b (p + 1 + spells a)
 Spelled s (nest k a) p = (k ≤ 255) × Spelled s a (p + 2)
 Spelled s line p = Unit {0}

@@ -1,0 +1,78 @@
+-- Past the width all columns are alike, but for the bytes beyond it. Assumes nothing.
+use mathlib.Core.Path.{_≡_, refl}
+use mathlib.Core.Bool.{Bool, true, false, cond}
+use mathlib.Core.List.{List, [], _∷_}
+use Prim.Native.Nat.{ℕ, _+_, _-_, _≤_}
+use native.Mathlib.Omega.{arith}
+use lib.ListN.{length}
+use Rattle.std.proofs.shelf.Ways.{tells}
+use Rattle.doc.specs.Doc.{Doc, nil, text, cat, nest, line, group}
+use Rattle.cost.specs.Layout.{Layout}
+use Rattle.cost.specs.Best.{beyond, wins, better, first-of}
+use Rattle.cost.specs.Price.{capped, price}
+use Rattle.cost.specs.ToGo.{stop, then-text, line-to-go, group-to-go, to-go}
+use Rattle.cost.specs.declared.price.Mode.{Mode}
+use Rattle.cost.specs.declared.price.Mode.the-variants.{Flat, Broken}
+
+-- from the width on, k has a byte more beyond it for each column, and as many lines
+pub record Level (w : ℕ) (k : ℕ → Layout) : Type 0 where
+  pub further : (c : ℕ) → w ≤ c → beyond w (k c) ≡ beyond w (k w) + (c - w)
+  pub as-many : (c : ℕ) → w ≤ c → k c .lines ≡ k w .lines
+
+pub level-stop : (w : ℕ) → Level w stop
+level-stop w = record { further = λ c h. omega arith; as-many = λ c h. refl }
+
+level-text : (w : ℕ) (t : List ℕ) (k : ℕ → Layout) → Level w k → Level w (then-text t k)
+level-text w t k l = record {
+  further = λ c h. omega (arith, l .further (c + length t) (omega arith), l .further (w + length t) (omega arith));
+  as-many = λ c h. omega (arith, l .as-many (c + length t) (omega arith), l .as-many (w + length t) (omega arith));
+}
+
+level-line : (w i : ℕ) (m : Mode) (k : ℕ → Layout) → Level w k → Level w (line-to-go w i m k)
+level-line w i Flat k l = level-text w (32 ∷ []) k l
+level-line w i Broken k l = record { further = λ c h. omega arith; as-many = λ c h. refl }
+
+-- as many more on both sides
+wins-more : (b l c m x : ℕ) → wins (b + x) l (c + x) m ≡ wins b l c m
+unfolding wins
+wins-more b l c m x = grind (arith, tells)
+
+-- which of two is better is alike from the width on
+pub level-better : (w : ℕ) (f g : ℕ → Layout) → Level w f → Level w g → (c : ℕ) → w ≤ c → better w (f c) (g c) ≡ better w (f w) (g w)
+level-better w f g p q c h =
+    rw (p .further c h, p .as-many c h, q .further c h, q .as-many c h) (wins-more _ _ _ _ _)
+
+-- which of two is taken is alike too
+level-either : (w : ℕ) (f g : ℕ → Layout) → Level w f → Level w g → Level w (λ c. first-of w (f c) (g c))
+level-either w f g p q = record {
+  further = λ c h. rw (level-better w g f q p c h) (further c h (better w (g w) (f w)));
+  as-many = λ c h. rw (level-better w g f q p c h) (as-many c h (better w (g w) (f w)));
+} where
+  further : (c : ℕ) → w ≤ c → (b : Bool) → beyond w (cond b (g c) (f c)) ≡ beyond w (cond b (g w) (f w)) + (c - w)
+  further c h true = q .further c h
+  further c h false = p .further c h
+
+  as-many : (c : ℕ) → w ≤ c → (b : Bool) → cond b (g c) (f c) .lines ≡ cond b (g w) (f w) .lines
+  as-many c h true = q .as-many c h
+  as-many c h false = p .as-many c h
+
+level-group : (w : ℕ) (m : Mode) (f g : ℕ → Layout) → Level w f → Level w g → Level w (λ c. group-to-go w m (f c) (g c))
+level-group w Flat f g p q = p
+level-group w Broken f g p q = level-either w f g p q
+
+pub level-to-go : (w : ℕ) (d : Doc) (i : ℕ) (m : Mode) (k : ℕ → Layout) → Level w k → Level w (to-go w d i m k)
+unfolding to-go
+level-to-go w nil i m k l = l
+level-to-go w (text t) i m k l = level-text w t k l
+level-to-go w (cat a b) i m k l = level-to-go w a i m (to-go w b i m k) (level-to-go w b i m k l)
+level-to-go w (nest j a) i m k l = level-to-go w a (j + i) m k l
+level-to-go w line i m k l = level-line w i m k l
+level-to-go w (group a) i m k l = level-group w m (to-go w a i Flat k) (to-go w a i Broken k) (level-to-go w a i Flat k l) (level-to-go w a i Broken k l)
+
+-- a cost that was capped before more is added is as good as one that was not
+capped-more : (b l x : ℕ) → capped (b + x) l ≡ capped (capped b l .beyond + x) (capped b l .lines)
+capped-more b l x = grind (arith, tells)
+
+-- so the cost at the width tells the cost at each column past it
+pub level-price : (w : ℕ) (k : ℕ → Layout) → Level w k → (c : ℕ) → w ≤ c → price w (k c) ≡ capped (price w (k w) .beyond + (c - w)) (price w (k w) .lines)
+level-price w k l c h = rw (l .further c h, l .as-many c h) (capped-more _ _ _)
