@@ -1,5 +1,5 @@
 -- Past the width all columns are alike, but for the bytes beyond it. Assumes nothing.
-use mathlib.Core.Path.{_≡_, refl}
+use mathlib.Core.Path.{_≡_, refl, sym}
 use mathlib.Core.Bool.{Bool, true, false, cond}
 use mathlib.Core.List.{List, [], _∷_}
 use Prim.Native.Nat.{ℕ, _+_, _-_, _≤_}
@@ -9,10 +9,11 @@ use Rattle.std.proofs.shelf.Ways.{tells}
 use Rattle.doc.specs.Doc.{Doc, nil, text, cat, nest, line, group}
 use Rattle.cost.specs.Layout.{Layout}
 use Rattle.cost.specs.Best.{beyond, wins, better, first-of}
-use Rattle.cost.specs.Price.{capped, price}
-use Rattle.cost.specs.ToGo.{stop, then-text, line-to-go, group-to-go, to-go}
+use Rattle.cost.specs.Price.{price, further}
+use Rattle.cost.specs.ToGo.{stop, then-text, then-line, line-to-go, group-to-go, to-go}
 use Rattle.cost.specs.declared.price.Mode.{Mode}
 use Rattle.cost.specs.declared.price.Mode.the-variants.{Flat, Broken}
+use Rattle.cost.proofs.Capped.{further-capped}
 
 -- from the width on, k has a byte more beyond it for each column, and as many lines
 pub record Level (w : ℕ) (k : ℕ → Layout) : Type 0 where
@@ -28,9 +29,12 @@ level-text w t k l = record {
   as-many = λ c h. omega (arith, l .as-many (c + length t) (omega arith), l .as-many (w + length t) (omega arith));
 }
 
+pub level-break : (w i : ℕ) (k : ℕ → Layout) → Level w (then-line w i k)
+level-break w i k = record { further = λ c h. omega arith; as-many = λ c h. refl }
+
 level-line : (w i : ℕ) (m : Mode) (k : ℕ → Layout) → Level w k → Level w (line-to-go w i m k)
 level-line w i Flat k l = level-text w (32 ∷ []) k l
-level-line w i Broken k l = record { further = λ c h. omega arith; as-many = λ c h. refl }
+level-line w i Broken k l = level-break w i k
 
 -- as many more on both sides
 wins-more : (b l c m x : ℕ) → wins (b + x) l (c + x) m ≡ wins b l c m
@@ -69,10 +73,6 @@ level-to-go w (nest j a) i m k l = level-to-go w a (j + i) m k l
 level-to-go w line i m k l = level-line w i m k l
 level-to-go w (group a) i m k l = level-group w m (to-go w a i Flat k) (to-go w a i Broken k) (level-to-go w a i Flat k l) (level-to-go w a i Broken k l)
 
--- a cost that was capped before more is added is as good as one that was not
-capped-more : (b l x : ℕ) → capped (b + x) l ≡ capped (capped b l .beyond + x) (capped b l .lines)
-capped-more b l x = grind (arith, tells)
-
--- so the cost at the width tells the cost at each column past it
-pub level-price : (w : ℕ) (k : ℕ → Layout) → Level w k → (c : ℕ) → w ≤ c → price w (k c) ≡ capped (price w (k w) .beyond + (c - w)) (price w (k w) .lines)
-level-price w k l c h = rw (l .further c h, l .as-many c h) (capped-more _ _ _)
+-- the cost at the width tells the cost at each column past it
+pub level-price : (w : ℕ) (k : ℕ → Layout) → Level w k → (c : ℕ) → w ≤ c → price w (k c) ≡ further (price w (k w)) (c - w)
+level-price w k l c h = rw (l .further c h, l .as-many c h) (sym (further-capped _ _ _))

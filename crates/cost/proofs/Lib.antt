@@ -1,5 +1,9 @@
+pub mod Capped
 pub mod Choosing
 pub mod Chosen
+pub mod Few
 pub mod Level
+pub mod Merging
 pub mod Notes
+pub mod Tells
 pub mod ToGo

@@ -1,3 +1,4 @@
 pub mod Parsing
+pub mod Shapes
 pub mod Sizes
 pub mod Texts

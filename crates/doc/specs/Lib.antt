@@ -2,3 +2,4 @@ pub mod Doc
 pub mod Encoding
 pub mod Nodes
 pub mod Reading
+pub mod Standing
