@@ -14,12 +14,13 @@ use Rattle.doc.specs.Nodes.{size}
 use Rattle.cost.specs.Layout.{Layout, empty, with-text, with-line}
 use Rattle.cost.specs.Best.{beyond, wins, better, first-of}
 use Rattle.cost.specs.Price.{beats, limit, most-lines, capped}
+use Rattle.cost.specs.Row.{Level}
 use Rattle.cost.specs.ToGo.{stop, then-text, line-to-go, group-to-go, to-go, extend}
 use Rattle.cost.specs.Chosen.{breaks, decided, line-chosen, chosen, Chosen-best}
 use Rattle.cost.specs.declared.price.Mode.{Mode}
 use Rattle.cost.specs.declared.price.Mode.the-variants.{Flat, Broken}
 use Rattle.cost.proofs.Few.{Few, few-to-go}
-use Rattle.cost.proofs.Level.{Level, level-stop, level-better, level-to-go}
+use Rattle.cost.proofs.Level.{level-stop, level-better, level-to-go}
 use Rattle.cost.proofs.ToGo.{best-to-go}
 
 -- r is t behind s, unless both are too long

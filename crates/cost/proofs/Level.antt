@@ -10,15 +10,11 @@ use Rattle.doc.specs.Doc.{Doc, nil, text, cat, nest, line, group}
 use Rattle.cost.specs.Layout.{Layout}
 use Rattle.cost.specs.Best.{beyond, wins, better, first-of}
 use Rattle.cost.specs.Price.{price, further}
+use Rattle.cost.specs.Row.{Level}
 use Rattle.cost.specs.ToGo.{stop, then-text, then-line, line-to-go, group-to-go, to-go}
 use Rattle.cost.specs.declared.price.Mode.{Mode}
 use Rattle.cost.specs.declared.price.Mode.the-variants.{Flat, Broken}
 use Rattle.cost.proofs.Capped.{further-capped}
-
--- from the width on, k has a byte more beyond it for each column, and as many lines
-pub record Level (w : ℕ) (k : ℕ → Layout) : Type 0 where
-  pub further : (c : ℕ) → w ≤ c → beyond w (k c) ≡ beyond w (k w) + (c - w)
-  pub as-many : (c : ℕ) → w ≤ c → k c .lines ≡ k w .lines
 
 pub level-stop : (w : ℕ) → Level w stop
 level-stop w = record { further = λ c h. omega arith; as-many = λ c h. refl }

@@ -12,13 +12,13 @@ use Rattle.doc.specs.Doc.{Doc, nil, text, cat, nest, line, group}
 use Rattle.cost.specs.Layout.{Layout}
 use Rattle.cost.specs.Best.{beyond}
 use Rattle.cost.specs.Price.{beats, capped, price, further, line-more, cheaper}
-use Rattle.cost.specs.Row.{no-cost, along, flat-length, Tells}
+use Rattle.cost.specs.Row.{no-cost, along, flat-length, Tells, Level}
 use Rattle.cost.specs.ToGo.{stop, then-text, then-line, to-go}
 use Rattle.cost.specs.Chosen.{breaks, below}
 use Rattle.cost.specs.declared.price.Cost.{Cost}
 use Rattle.cost.specs.declared.price.Mode.the-variants.{Flat, Broken}
 use Rattle.cost.proofs.Capped.{line-more-capped, cheaper-price}
-use Rattle.cost.proofs.Level.{Level, level-stop, level-break, level-to-go, level-price}
+use Rattle.cost.proofs.Level.{level-stop, level-break, level-to-go, level-price}
 use Rattle.cost.proofs.Notes.{length-below, getD-below}
 
 -- flat, a document only moves the column

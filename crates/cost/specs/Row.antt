@@ -2,11 +2,12 @@
 use mathlib.Core.Path.{_≡_}
 use mathlib.Core.Bool.{cond}
 use mathlib.Core.List.{List}
-use Prim.Native.Nat.{ℕ, suc, _+_, _-_}
+use Prim.Native.Nat.{ℕ, suc, _+_, _-_, _≤_}
 use lib.Dec.{leb}
 use lib.ListN.{length, getD}
 use Rattle.doc.specs.Doc.{Doc, nil, text, cat, nest, line, group}
 use Rattle.cost.specs.Layout.{Layout}
+use Rattle.cost.specs.Best.{beyond}
 use Rattle.cost.specs.Price.{price, further}
 use Rattle.cost.specs.declared.price.Cost.{Cost}
 
@@ -30,3 +31,8 @@ flat-length (group a) = flat-length a
 pub record Tells (w : ℕ) (row : List Cost) (offset : ℕ) (k : ℕ → Layout) : Type 0 where
   pub long : length row ≡ suc w
   pub costs : (c : ℕ) → along row (c + offset) ≡ price w (k c)
+
+-- from the width on, k has a byte more beyond it for each column, and as many lines
+pub record Level (w : ℕ) (k : ℕ → Layout) : Type 0 where
+  pub further : (c : ℕ) → w ≤ c → beyond w (k c) ≡ beyond w (k w) + (c - w)
+  pub as-many : (c : ℕ) → w ≤ c → k c .lines ≡ k w .lines
