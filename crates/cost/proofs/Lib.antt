@@ -1,6 +1,7 @@
 pub mod Capped
 pub mod Choosing
 pub mod Chosen
+pub mod Counted
 pub mod Few
 pub mod Level
 pub mod Merging

@@ -216,4 +216,5 @@ module _ (s : List ℕ) where
           decoded = cond-true _ _ _ (le-leb (length s) 65536 few) ∙ rw (r .parsed (suc (length s)) (omega arith)) (rw (drop-all next s h));
           row-is = r .row-is ∙ (λ i. none i ++ laid (r .what) 0 (length (none i)));
           spelled = r .spelled;
+          few = omega (arith, size-spells (r .what), r .ends, r .within);
         }

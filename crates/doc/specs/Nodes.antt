@@ -58,6 +58,7 @@ pub record Row-of (s : List ℕ) (row : List Node) : Type 0 where
   pub decoded : decode s ≡ Some what
   pub row-is : row ≡ laid what 0 0
   pub spelled : Spelled s what 0
+  pub few : size what ≤ 65536
 
 -- the number of a refusal to read
 abbrev pub refusal-number : ReadError → ℕ

@@ -74,7 +74,7 @@ pub holds-as : (v : Writer) (l k : Layout) (n m : ℕ) → l ≡ k → n ≡ m �
 holds-as v l k n m e f h = subst (λ x. Holds v x m) e (subst (Holds v l) f h)
 
 -- what is held where the layout is not too long
-parts-of : (v : Writer) (l : Layout) (n : ℕ) → v .full ≡ false → Holds v l n → (vec-items (v .out) ≡ l .out) × (v .column ≡ l .column) × (v .lines ≡ l .lines) × (v .left ≡ n)
+pub parts-of : (v : Writer) (l : Layout) (n : ℕ) → v .full ≡ false → Holds v l n → (vec-items (v .out) ≡ l .out) × (v .column ≡ l .column) × (v .lines ≡ l .lines) × (v .left ≡ n)
 parts-of v l n e h = when-false _ _ e h
 
 -- a layout that is too long stays so

@@ -1,0 +1,13 @@
+// Everything that laying out a document needs, taken once for the largest document and width.
+use crate::search::Search;
+use crate::writer::Writer;
+use doc::nodes::Nodes;
+use std::alloc::AllocError;
+use std::alloc::Global;
+
+#[derive(Drop)]
+pub struct Workspace {
+    pub(crate) nodes: Nodes,
+    pub(crate) search: Search,
+    pub(crate) writer: Writer,
+}
