@@ -1,11 +1,11 @@
 -- Which refusal applies, and that what was written is the best layout. Assumes nothing.
 use mathlib.Core.Path.{_≡_, refl, ap, sym, subst, _∙_}
 use mathlib.Core.Bool.{Bool, true, false}
-use mathlib.Core.List.{List, [], _++_}
+use mathlib.Core.List.{List, [], _++_, append-nil}
 use mathlib.Core.Logic.{⊎-elim}
 use Prim.Native.Nat.{ℕ, suc, _+_, _*_, _≤_, _<_}
 use native.Mathlib.Omega.{arith}
-use lib.ListN.{length, drop, take}
+use lib.ListN.{length, drop, replicate}
 use Rattle.std.proofs.shelf.Lists.{take-all}
 use Rattle.std.proofs.shelf.Tests.{cond-true, cond-false, le-leb, lt-leb, cases-bool, cases-lt}
 use Rattle.std.specs.Of.Vec.{vec-items}
@@ -25,10 +25,15 @@ use Rattle.cost.specs.Price.{limit}
 use Rattle.cost.specs.ToGo.{stop}
 use Rattle.cost.specs.Chosen.{notes, chosen}
 use Rattle.cost.specs.declared.price.Mode.the-variants.{Broken}
+use Rattle.cost.specs.Row.{Tells, no-cost}
+use Rattle.cost.proofs.Tells.{tells-stop}
+use Rattle.cost.proofs.Level.{level-stop}
 use Rattle.cost.proofs.Chosen.{chosen-best}
 use Rattle.cost.proofs.Counted.{best-counted}
 use Rattle.layout.specs.Entry.{refusal, refusal-of, the-best, length-refusal, Set-says}
-use Rattle.layout.specs.Writing.{Holds, Task}
+use Rattle.layout.specs.Searching.{Quest, Found}
+use Rattle.layout.specs.Writing.{Holds, Task, Writes}
+use Rattle.layout.specs.declared.search.Search.{Search}
 use Rattle.layout.specs.declared.reply.Reply.{Reply}
 use Rattle.layout.specs.declared.reply.Reply.the-variants.{Lines, Refused}
 use Rattle.layout.specs.declared.writer.Writer.{Writer}
@@ -88,3 +93,80 @@ holds-best w d v n few h =
         (λ rest. let parts = parts-of v made n rest h in absurd (omega (arith, known .1 far, ap length (parts .0), v .short, v .out .ok .0)))
         (cases-bool (v .full)))
     (cases-lt (beyond w (best w d)) limit)
+
+-- the whole document
+module _ (s : List ℕ) (ns : List Node) (r : Row-of s ns) where
+  whole-stands : Stands ns (r .what) 0 0
+  whole-stands = laid-stands s (r .what) 0 0 ns [] [] (r .row-is ∙ sym (append-nil _)) refl (r .spelled)
+
+  whole-long : length ns ≡ size (r .what)
+  whole-long = ap length (r .row-is) ∙ length-laid (r .what) 0 0
+
+  pub whole-quest : (v : Search) → v .offset ≡ 0 → v .flat ≡ 0 → vec-items (v .saved) ≡ [] → vec-items (v .notes) ≡ [] → Quest ns 0 0 v
+  whole-quest v offset flat saved noted =
+      let few = r .few in
+      let no-saved = ap length saved in
+      let no-notes = ap length noted in
+      record {
+        what = r .what;
+        from = 0;
+        stands = whole-stands;
+        few = omega (arith, whole-long);
+        shallow = omega arith;
+        near = omega arith;
+        short = omega arith;
+        deep = omega (arith, v .saved .ok .0);
+        many = omega (arith, v .notes .ok .0);
+      }
+
+  -- what the search has noted from the end of the document on
+  pub whole-notes : (w : ℕ) (v u : Search) → v .width ≡ w → vec-items (v .row) ≡ replicate (suc w) no-cost → v .offset ≡ 0 → vec-items (v .notes) ≡ [] → ((d : Doc) (p : ℕ) → Stands ns d p 0 → Found d 0 v u) → vec-items (u .notes) ≡ notes w (r .what) 0 stop
+  whole-notes w v u width row offset none found =
+      let tells : Tells (v .width) (vec-items (v .row)) (v .offset) stop =
+          subst (λ x. Tells x (vec-items (v .row)) (v .offset) stop) (sym width)
+          (subst (λ x. Tells w x (v .offset) stop) (sym row) (subst (λ x. Tells w (replicate (suc w) no-cost) x stop) (sym offset) (tells-stop w))) in
+      found (r .what) 0 whole-stands .noted stop (level-stop (v .width)) tells
+      ∙ (λ i. none i ++ notes (width i) (r .what) 0 stop)
+
+  pub whole-task : (w : ℕ) (noted : List Bool) (left : ℕ) → noted ≡ notes w (r .what) 0 stop → left ≡ length noted → Task s ns noted w 0 0 left
+  whole-task w noted left e f = record {
+    what = r .what;
+    from = 0;
+    rest = stop;
+    before = [];
+    stands = whole-stands;
+    spelled = r .spelled;
+    decisions = take-all left noted (omega arith) ∙ e;
+    within = omega arith;
+    shallow = omega arith;
+    few = omega (arith, whole-long, r .few);
+  }
+
+  pub whole-written : (w : ℕ) (noted : List Bool) (v u : Writer) → noted ≡ notes w (r .what) 0 stop → vec-items (v .out) ≡ [] → v .column ≡ 0 → v .lines ≡ 0 → v .left ≡ length noted → v .full ≡ false → Writes s ns noted w 0 0 Broken v u → When (u .full) (131072 < length (the-best s w .out)) ((vec-items (u .out) ≡ the-best s w .out) × (u .lines ≡ the-best s w .lines))
+  unfolding whole-task
+  whole-written w noted v u e out column lines left full writes =
+      let held : Holds v empty (v .left) = from-false (v .full) _ _ full (out, column, lines, refl) in
+      subst (λ l. When (u .full) (131072 < length (l .out)) ((vec-items (u .out) ≡ l .out) × (u .lines ≡ l .lines))) (sym (best-is s w 0 (r .what) (r .decoded)))
+      (holds-best w (r .what) u 0 (r .few) (writes (whole-task w noted (v .left) e left) empty held))
+
+-- how the best layout is answered, once its length is known; the columns are the width
+module _ (spelled : List ℕ) (w cols : ℕ) (out exit : List ℕ) (d : Doc) (e : decode spelled ≡ Some d) (same : cols ≡ w) (narrow : cols ≤ 255) where
+  -- which refusal its length makes
+  refused : (n k : ℕ) → length (the-best spelled cols .out) ≡ n → length-refusal n (length out) ≡ k → refusal spelled w (length out) ≡ k
+  refused n k l r =
+      by-length spelled w (length out) d e (omega arith) ∙ ap (λ x. length-refusal (length (the-best spelled x .out)) (length out)) (sym same) ∙ ap (λ x. length-refusal x (length out)) l ∙ r
+
+  pub answer-long : 131072 < length (the-best spelled cols .out) → exit ≡ out → Set-says spelled w out (refusal spelled w (length out)) (Refused 3) exit
+  answer-long h x = says-refused spelled w out exit _ 2 (Refused 3) (refused _ 3 refl (layout-long _ _ h)) refl x
+
+  module _ (written : List ℕ) (is : written ≡ the-best spelled cols .out) (short : length written ≤ 131072) where
+    pub answer-short : length out < length written → exit ≡ out → Set-says spelled w out (refusal spelled w (length out)) (Refused 4) exit
+    answer-short h x =
+        says-refused spelled w out exit _ 3 (Refused 4) (refused (length written) 4 (ap length (sym is)) (buffer-short _ _ short h)) refl x
+
+    pub answer-lines : (lines len : ℕ) → lines ≡ the-best spelled cols .lines → len ≡ length written → len ≤ length out → exit ≡ written ++ drop len out → Set-says spelled w out (refusal spelled w (length out)) (Lines (lines * 4294967296 + len)) exit
+    answer-lines lines len lines-is len-is fits x =
+        let text : written ≡ the-best spelled w .out = is ∙ ap (λ c. the-best spelled c .out) same in
+        let long : len ≡ length (the-best spelled w .out) = len-is ∙ ap length text in
+        let count : lines ≡ the-best spelled w .lines = lines-is ∙ ap (λ c. the-best spelled c .lines) same in
+        says-lines spelled w out exit _ _ (refused (length written) 0 (ap length (sym is)) (all-fits _ _ short (omega arith))) (ap Lines (omega arith)) (x ∙ (λ i. text i ++ drop (long i) out))

@@ -2,10 +2,10 @@
 use mathlib.Core.Path.{_≡_}
 use mathlib.Core.Bool.{cond}
 use mathlib.Core.List.{List, _++_}
-use Prim.Native.Nat.{ℕ, zero, suc, _+_, _*_}
+use Prim.Native.Nat.{ℕ, zero, suc, _+_, _*_, _≤_, _<_}
 use lib.Dec.{leb}
 use lib.ListN.{length, drop}
-use Rattle.std.specs.Options.{valueOr}
+use Rattle.std.specs.Options.{valueOr, Cases as BySome}
 use Rattle.std.specs.declared.option.Option.{Option}
 use Rattle.std.specs.declared.option.Option.the-variants.{Some, None}
 use Rattle.doc.specs.Doc.{Doc, nil}
@@ -37,3 +37,9 @@ Set-says spelled width out zero r out₁ =
     (r ≡ Lines (4294967296 * (the-best spelled width .lines) + length (the-best spelled width .out)))
     × (out₁ ≡ (the-best spelled width .out) ++ drop (length (the-best spelled width .out)) out)
 Set-says spelled width out (suc k) r out₁ = (r ≡ Refused (suc k)) × (out₁ ≡ out)
+
+-- laying out answers how many lines ended, and the writer has the best layout; or there is no answer, where that is too long
+abbrev pub Laid-out : (spelled : List ℕ) (width : ℕ) → (written : List ℕ) → Option ℕ → Type 0
+Laid-out spelled width written r =
+    BySome r (131072 < length (the-best spelled width .out))
+    (λ n. (n ≡ the-best spelled width .lines) × (n ≤ 131072) × (written ≡ the-best spelled width .out) × (length written ≤ 131072))

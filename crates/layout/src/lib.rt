@@ -3,6 +3,7 @@ pub mod entry;
 mod plan;
 pub mod reply;
 mod search;
+mod searching;
 mod tree;
 pub mod workspace;
 mod writer;

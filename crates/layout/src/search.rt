@@ -3,6 +3,14 @@ ghost use mathlib.Core.Path.{_≡_};
 ghost use Prim.Native.Nat.{_+_, _≤_};
 ghost use Rattle.std.specs.Of.Vec.{vec-cap, vec-len};
 use cost::price::Cost;
+use std::alloc::AllocError;
+use std::alloc::Global;
+
+// A row has at most so many costs.
+const MOST_COLUMNS: usize = 256;
+
+// At most so many costs are kept, and so many decisions noted.
+const MOST_KEPT: usize = 16_777_216;
 
 #[derive(Drop)]
 pub(crate) struct Search {
@@ -18,6 +26,28 @@ pub(crate) struct Search {
     pub(crate) notes: Vec<bool>,
     ghost narrow: { width ≤ 255 },
     ghost long: { vec-len row ≡ width + 1 },
+    ghost wide: { 256 ≤ vec-cap row },
     ghost deep: { 16777216 ≤ vec-cap saved },
     ghost many: { 16777216 ≤ vec-cap notes },
+}
+
+impl Search {
+    // A search with room for any document at any width.
+    pub(crate) fn new(heap: Global) -> Result<Search, AllocError> {
+        let mut row = Vec::with_capacity(heap, MOST_COLUMNS)?;
+        row.push_reserved(Cost {
+            beyond: 0,
+            lines: 0,
+        });
+        let saved = Vec::with_capacity(heap, MOST_KEPT)?;
+        let notes = Vec::with_capacity(heap, MOST_KEPT)?;
+        Ok(Search {
+            width: 0,
+            row,
+            offset: 0,
+            flat: 0,
+            saved,
+            notes,
+        })
+    }
 }

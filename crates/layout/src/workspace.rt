@@ -11,3 +11,17 @@ pub struct Workspace {
     pub(crate) search: Search,
     pub(crate) writer: Writer,
 }
+
+impl Workspace {
+    // The only place where memory can be wanting.
+    pub fn new(heap: Global) -> Result<Workspace, AllocError> {
+        let nodes = Nodes::new(heap)?;
+        let search = Search::new(heap)?;
+        let writer = Writer::new(heap)?;
+        Ok(Workspace {
+            nodes,
+            search,
+            writer,
+        })
+    }
+}
