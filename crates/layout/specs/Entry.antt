@@ -2,7 +2,7 @@
 use mathlib.Core.Path.{_≡_}
 use mathlib.Core.Bool.{cond}
 use mathlib.Core.List.{List, _++_}
-use Prim.Native.Nat.{ℕ, zero, suc, _+_, _*_, _≤_, _<_}
+use Prim.Native.Nat.{ℕ, zero, suc, _+_, _*_, _/_, _%_, _≤_, _<_}
 use lib.Dec.{leb}
 use lib.ListN.{length, drop}
 use Rattle.std.specs.Options.{valueOr, Cases as BySome}
@@ -30,6 +30,15 @@ refusal spelled width room = refusal-of width room (decode spelled)
 -- the best layout of an encoded document
 unfoldable pub the-best : (spelled : List ℕ) → (width : ℕ) → Layout
 the-best spelled width = best width (valueOr (decode spelled) nil)
+
+-- how long the layout is that an answer tells of, and how many lines ended
+abbrev pub reply-length : Reply → ℕ
+reply-length (Lines n) = n % 4294967296
+reply-length (Refused n) = 0
+
+abbrev pub reply-lines : Reply → ℕ
+reply-lines (Lines n) = n / 4294967296
+reply-lines (Refused n) = 0
 
 -- with no refusal: how many lines ended times 2^32 and the layout's length, and the layout at the buffer's beginning, its rest as it was; otherwise the number, and the buffer as it was
 abbrev pub Set-says : (spelled : List ℕ) (width : ℕ) (out : List ℕ) → (refusal : ℕ) → Reply → (out₁ : List ℕ) → Type 0

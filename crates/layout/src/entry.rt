@@ -9,9 +9,13 @@ ghost use Rattle.doc.specs.Nodes.{Row-of};
 ghost use Rattle.layout.specs.Entry.{Laid-out, refusal, Set-says};
 use cost::price::Mode;
 use crate::plan::Plan;
+use crate::reply::LINES_UNIT;
 use crate::reply::Reply;
 use crate::tree::Tree;
 use crate::workspace::Workspace;
+
+// A layout has at most so many bytes.
+pub use crate::writer::MOST_LAYOUT;
 
 // The widest that a layout may be.
 pub const MOST_WIDTH: u64 = 255;
@@ -21,9 +25,6 @@ pub const NOT_DOCUMENT: u64 = 1;
 pub const TOO_WIDE: u64 = 2;
 pub const TOO_LONG: u64 = 3;
 pub const NO_ROOM: u64 = 4;
-
-// In an answer, lines are counted in this unit, above the length.
-pub const LINES_UNIT: u64 = 4_294_967_296;
 
 // A width that can be.
 fn narrow(width: u64) -> Option<usize>

@@ -1,11 +1,10 @@
 // setdoc: reads a width and an encoded document from standard input, and prints the best layout.
-ghost use lib.ListN.{length};
 ghost use Rattle.setdoc.specs.Input.{Input-says};
+use layout::entry::MOST_LAYOUT;
 use layout::entry::NOT_DOCUMENT;
 use layout::entry::set;
 use layout::reply::Reply;
 use layout::workspace::Workspace;
-use layout::workspace::MOST_LAYOUT;
 use std::error::AnyError;
 use std::io::Read;
 use std::io::Write;
@@ -29,10 +28,11 @@ fn main(rt: LibcRuntime) -> Result<(), AnyError> {
     let mut input = Vec::new(heap);
     rt.stdin().take(MOST_INPUT).read_to_end(&mut input)?;
     let mut out = vec![in heap; 0u8; MOST_LAYOUT]?;
-    match lay_out(&mut room, input.as_slice(), out.as_mut_slice()) {
-        Reply::Lines(n) => {
-            let len = (n % LINES_UNIT) as usize;
-            rt.stdout().write_all(&out[0..len])?;
+    let reply = lay_out(&mut room, input.as_slice(), out.as_mut_slice());
+    match reply {
+        Reply::Lines(_) => {
+            let len = reply.length();
+            rt.stdout().write_all(&out.as_slice()[0..len])?;
             Ok(())
         }
         Reply::Refused(n) => {
