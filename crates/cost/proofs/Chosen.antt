@@ -129,7 +129,7 @@ counted w (group a) i m k s h = counted w a i _ k s h
 pub chosen-best : Chosen-best
 chosen-best w d small =
     let all : Behind w (chosen w d 0 Broken stop empty) empty (to-go w d 0 Broken stop 0) =
-        follows w d 0 Broken (λ s. s) stop 0 (level-stop w) (λ c. omega arith) (omega arith) (follows-stop w) empty in
+    follows w d 0 Broken (λ s. s) stop 0 (level-stop w) (λ c. omega arith) (omega arith) (follows-stop w) empty in
     rw (best-to-go w d) (
       λ h. all .same h ∙ simp zero-add,
       λ h. omega (arith, all .long h, counted w d 0 Broken stop empty (omega arith)),

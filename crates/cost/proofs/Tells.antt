@@ -46,9 +46,9 @@ tells-level : (w : ℕ) (row : List Cost) (k : ℕ → Layout) →
 tells-level w row k long l h = record {
   long = long;
   costs = λ c. rw add-zero (⊎-elim
-    (λ past. along-past w row long c past ∙ ap (λ a. further a (c - w)) (h w (omega arith)) ∙ sym (level-price w k l c (omega arith)))
-    (λ at. along-at w row long c at ∙ h c at)
-    (cases-lt w c));
+      (λ past. along-past w row long c past ∙ ap (λ a. further a (c - w)) (h w (omega arith)) ∙ sym (level-price w k l c (omega arith)))
+      (λ at. along-at w row long c at ∙ h c at)
+      (cases-lt w c));
 }
 
 pub tells-stop : (w : ℕ) → Tells w (replicate (suc w) no-cost) 0 stop

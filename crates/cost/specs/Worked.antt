@@ -26,9 +26,9 @@ unfoldable pub worked-call : Doc
 worked-call =
     cats
     (
-      text (codes "let x = ")
-      ∷ call (codes "put") (text (codes "bread") ∷ call (codes "slice") (text (codes "cheese") ∷ text (codes "thin") ∷ []) ∷ text (codes "salt") ∷ [])
-      ∷ line ∷ text (codes "in x") ∷ []
+    text (codes "let x = ")
+    ∷ call (codes "put") (text (codes "bread") ∷ call (codes "slice") (text (codes "cheese") ∷ text (codes "thin") ∷ []) ∷ text (codes "salt") ∷ [])
+    ∷ line ∷ text (codes "in x") ∷ []
     )
 
 -- flat it fits up to the b, and not with what stands behind it

@@ -43,12 +43,12 @@ module _ (s : List ℕ) (at c : ℕ) (h : at < length s) (is : getD s at 0 ≡ c
   no-tag e0 e1 e2 e3 e4 e5 =
       by-tag no-doc
       (λ m _.
-          cond-false _ _ _ (ne-eqb c 0 e0)
-          ∙ cond-false _ _ _ (ne-eqb c 1 e1)
-          ∙ cond-false _ _ _ (ne-eqb c 2 e2)
-          ∙ cond-false _ _ _ (ne-eqb c 3 e3)
-          ∙ cond-false _ _ _ (ne-eqb c 4 e4)
-          ∙ cond-false _ _ _ (ne-eqb c 5 e5))
+      cond-false _ _ _ (ne-eqb c 0 e0)
+      ∙ cond-false _ _ _ (ne-eqb c 1 e1)
+      ∙ cond-false _ _ _ (ne-eqb c 2 e2)
+      ∙ cond-false _ _ _ (ne-eqb c 3 e3)
+      ∙ cond-false _ _ _ (ne-eqb c 4 e4)
+      ∙ cond-false _ _ _ (ne-eqb c 5 e5))
 
 module _ (s : List ℕ) (at : ℕ) (h : at < length s) where
   pub nil-read : getD s at 0 ≡ 0 → (old new : List Node) → new ≡ old ++ node Nil (length old + 1) ∷ [] → Read-on s at old new (at + 1)
@@ -70,7 +70,7 @@ module _ (s : List ℕ) (at : ℕ) (h : at < length s) where
       let size-t : length t ≡ n = length-take-le n (drop (at + 2) s) (simp length-drop (omega arith)) in
       let plain-t : has-newline t ≡ false = ap (λ p. has-newline (take n (drop p s))) (sym two) ∙ plain in
       let read : read-text n (drop (at + 2) s) ≡ doc (text t) (drop n (drop (at + 2) s)) =
-          cond-true _ _ _ (and-from _ _ (le-leb n (length (drop (at + 2) s)) (simp length-drop (omega arith))) (not-from-false _ plain-t)) in
+      cond-true _ _ _ (and-from _ _ (le-leb n (length (drop (at + 2) s)) (simp length-drop (omega arith))) (not-from-false _ plain-t)) in
       record {
         what = text t;
         ends = omega (arith, size-t);
@@ -78,10 +78,10 @@ module _ (s : List ℕ) (at : ℕ) (h : at < length s) where
         parsed =
             by-tag s at 1 h is _
             (λ m _.
-                ap (λ bs. read-byte bs read-text) (drop-more s (at + 1) 0 more)
-                ∙ (λ i. read-text (sym long i) (drop (two i) s))
-                ∙ read
-                ∙ ap (doc (text t)) (drop-drop n (at + 2) s));
+            ap (λ bs. read-byte bs read-text) (drop-more s (at + 1) 0 more)
+            ∙ (λ i. read-text (sym long i) (drop (two i) s))
+            ∙ read
+            ∙ ap (doc (text t)) (drop-drop n (at + 2) s));
         row-is = e ∙ ap (λ l. old ++ node (Text (at + 2) l) (length old + 1) ∷ []) (sym size-t);
         spelled = (ap (λ l. take l (drop (at + 2) s)) size-t, omega (arith, size-t), omega (arith, size-t), plain-t);
       }
@@ -103,7 +103,7 @@ module _ (s : List ℕ) (at : ℕ) (h : at < length s) where
       let lb = laid b (at + 1 + spells a) (length old + 1 + size a) in
       let rest-is : rest ≡ old ++ open-node ∷ la = ra .row-is ∙ (λ i. o i ++ laid a (at + 1) (x i)) ∙ append-assoc old (open-node ∷ []) la in
       let new-is : new ≡ old ++ open-node ∷ (la ++ lb) =
-          rb .row-is ∙ (λ i. rest-is i ++ laid b (ra .ends i) (y i)) ∙ append-assoc old (open-node ∷ la) lb in
+      rb .row-is ∙ (λ i. rest-is i ++ laid b (ra .ends i) (y i)) ∙ append-assoc old (open-node ∷ la) lb in
       let sizes : length (la ++ lb) ≡ size a + size b = length-append la lb ∙ (λ i. length-laid a (at + 1) (length old + 1) i + length-laid b (at + 1 + spells a) (length old + 1 + size a) i) in
       record {
         what = cat a b;
@@ -112,8 +112,8 @@ module _ (s : List ℕ) (at : ℕ) (h : at < length s) where
         parsed =
             by-tag s at 2 h is _
             (λ m l.
-                rw (ra .parsed m l)
-                (rw (rb .parsed m (omega (arith, ra .ends)))));
+            rw (ra .parsed m l)
+            (rw (rb .parsed m (omega (arith, ra .ends)))));
         row-is = x-is ∙ (λ i. closed (new-is i) (p i)) ∙ closed-is old (la ++ lb) Cat (length old + 1) ∙ ap (λ n. old ++ node Cat (length old + suc n) ∷ (la ++ lb)) sizes;
         spelled = (ra .spelled, subst (Spelled s b) (ra .ends) (rb .spelled));
       }
@@ -147,9 +147,9 @@ module _ (s : List ℕ) (at : ℕ) (h : at < length s) where
         parsed =
             by-tag s at 3 h is _
             (λ m l.
-                ap (λ bs. read-byte bs (λ j ds. then-read (reads m ds) (λ a es. doc (nest j a) es))) (drop-more s (at + 1) 0 more)
-                ∙ (λ i. then-read (reads m (drop (two i) s)) (λ a es. doc (nest (sym byte i) a) es))
-                ∙ rw (ra .parsed m (omega arith)));
+            ap (λ bs. read-byte bs (λ j ds. then-read (reads m ds) (λ a es. doc (nest j a) es))) (drop-more s (at + 1) 0 more)
+            ∙ (λ i. then-read (reads m (drop (two i) s)) (λ a es. doc (nest (sym byte i) a) es))
+            ∙ rw (ra .parsed m (omega arith)));
         row-is = row-of-part (Nest k) (ra .what) (at + 2) old opened new exit place p o (ra .row-is) x-is;
         spelled = (few, ra .spelled);
       }

@@ -33,16 +33,14 @@ laid-stands s (text t) p x ns before after is e sp = (is-at ns before _ after x 
 laid-stands s (cat a b) p x ns before after is e sp =
     let n = node Cat (x + size (cat a b)) in
     let la = laid a (p + 1) (x + 1) in
-    let lb = laid b (p + 1 + spells a) (x + 1 + size a) in
-    (
+    let lb = laid b (p + 1 + spells a) (x + 1 + size a) in (
       is-at ns before n ((la ++ lb) ++ after) x is e,
       laid-stands s a (p + 1) (x + 1) ns (before ++ n ∷ []) (lb ++ after) (is ∙ ap (λ r. before ++ n ∷ r) (append-assoc la lb after) ∙ regroup before [] (la ++ (lb ++ after)) n) (behind before [] n x 0 e refl ∙ omega arith) (sp .0),
       laid-stands s b (p + 1 + spells a) (x + 1 + size a) ns (before ++ n ∷ la) after (is ∙ ap (λ r. before ++ n ∷ r) (append-assoc la lb after) ∙ regroup before la (lb ++ after) n) (behind before la n x (size a) e (length-laid a (p + 1) (x + 1))) (sp .1),
     )
 laid-stands s (nest k a) p x ns before after is e sp =
     let n = node (Nest k) (x + size (nest k a)) in
-    let la = laid a (p + 2) (x + 1) in
-    (
+    let la = laid a (p + 2) (x + 1) in (
       is-at ns before n (la ++ after) x is e,
       sp .0,
       laid-stands s a (p + 2) (x + 1) ns (before ++ n ∷ []) after (is ∙ regroup before [] (la ++ after) n) (behind before [] n x 0 e refl ∙ omega arith) (sp .1),
@@ -50,8 +48,7 @@ laid-stands s (nest k a) p x ns before after is e sp =
 laid-stands s line p x ns before after is e sp = is-at ns before _ after x is e
 laid-stands s (group a) p x ns before after is e sp =
     let n = node Group (x + size (group a)) in
-    let la = laid a (p + 1) (x + 1) in
-    (
+    let la = laid a (p + 1) (x + 1) in (
       is-at ns before n (la ++ after) x is e,
       laid-stands s a (p + 1) (x + 1) ns (before ++ n ∷ []) after (is ∙ regroup before [] (la ++ after) n) (behind before [] n x 0 e refl ∙ omega arith) sp,
     )

@@ -81,17 +81,17 @@ holds-best w d v n few h =
     let made = chosen w d 0 Broken stop empty in
     ⊎-elim
     (λ near.
-        let same : made ≡ best w d = known .0 near in
-        let g : Holds v (best w d) n = subst (λ l. Holds v l n) same h in
-        ⊎-elim
-        (λ full. from-true (v .full) _ _ full (when-true _ _ full g))
-        (λ rest. let parts = parts-of v (best w d) n rest g in from-false (v .full) _ _ rest (parts .0, parts .2))
-        (cases-bool (v .full)))
+    let same : made ≡ best w d = known .0 near in
+    let g : Holds v (best w d) n = subst (λ l. Holds v l n) same h in
+    ⊎-elim
+    (λ full. from-true (v .full) _ _ full (when-true _ _ full g))
+    (λ rest. let parts = parts-of v (best w d) n rest g in from-false (v .full) _ _ rest (parts .0, parts .2))
+    (cases-bool (v .full)))
     (λ far.
-        ⊎-elim
-        (λ full. from-true (v .full) _ _ full (omega (arith, best-counted w d)))
-        (λ rest. let parts = parts-of v made n rest h in absurd (omega (arith, known .1 far, ap length (parts .0), v .short, v .out .ok .0)))
-        (cases-bool (v .full)))
+    ⊎-elim
+    (λ full. from-true (v .full) _ _ full (omega (arith, best-counted w d)))
+    (λ rest. let parts = parts-of v made n rest h in absurd (omega (arith, known .1 far, ap length (parts .0), v .short, v .out .ok .0)))
+    (cases-bool (v .full)))
     (cases-lt (beyond w (best w d)) limit)
 
 -- the whole document
@@ -123,8 +123,8 @@ module _ (s : List ℕ) (ns : List Node) (r : Row-of s ns) where
   pub whole-notes : (w : ℕ) (v u : Search) → v .width ≡ w → vec-items (v .row) ≡ replicate (suc w) no-cost → v .offset ≡ 0 → vec-items (v .notes) ≡ [] → ((d : Doc) (p : ℕ) → Stands ns d p 0 → Found d 0 v u) → vec-items (u .notes) ≡ notes w (r .what) 0 stop
   whole-notes w v u width row offset none found =
       let tells : Tells (v .width) (vec-items (v .row)) (v .offset) stop =
-          subst (λ x. Tells x (vec-items (v .row)) (v .offset) stop) (sym width)
-          (subst (λ x. Tells w x (v .offset) stop) (sym row) (subst (λ x. Tells w (replicate (suc w) no-cost) x stop) (sym offset) (tells-stop w))) in
+      subst (λ x. Tells x (vec-items (v .row)) (v .offset) stop) (sym width)
+      (subst (λ x. Tells w x (v .offset) stop) (sym row) (subst (λ x. Tells w (replicate (suc w) no-cost) x stop) (sym offset) (tells-stop w))) in
       found (r .what) 0 whole-stands .noted stop (level-stop (v .width)) tells
       ∙ (λ i. none i ++ notes (width i) (r .what) 0 stop)
 

@@ -298,9 +298,9 @@ module _ (s : List ℕ) (ns : List Node) (noted : List Bool) (w at i : ℕ) (m :
           ⊎-elim
           (λ full. holds-as x _ _ _ _ name refl (stays-full u x w b i m k mid _ (length (t .before)) full (stop full) half))
           (λ go-on.
-              let n = parts-of u mid _ go-on half .3 in
-              holds-as x _ _ _ _ name refl
-              (subst (λ y. Writes s ns noted w y i m u x) (second-at t a b e) g (second-task t a b e (u .left) n) mid (holds-as u mid mid _ _ refl (sym n) half)))
+          let n = parts-of u mid _ go-on half .3 in
+          holds-as x _ _ _ _ name refl
+          (subst (λ y. Writes s ns noted w y i m u x) (second-at t a b e) g (second-task t a b e (u .left) n) mid (holds-as u mid mid _ _ refl (sym n) half)))
           (cases-bool (u .full))
 
   module _ (is : getD ns at no-node .kind ≡ Group) where
@@ -321,7 +321,7 @@ module _ (s : List ℕ) (ns : List Node) (noted : List Bool) (w at i : ℕ) (m :
           let held = parts-of v l _ full h in
           let here : Holds u l (u .left) = from-false (u .full) _ _ (same .same-full ∙ full) (same .same-out ∙ held .0, same .same-column ∙ held .1, same .same-lines ∙ held .2, refl) in
           let note : getD noted (v .left - (w + 1) + min (v .column) w) false ≡ breaks w (to-go w a i Flat k (min (l .column) w)) (to-go w a i Broken k (min (l .column) w)) =
-              ap (λ c. getD noted (v .left - (w + 1) + min c w) false) (held .1) ∙ group-note t a e (min (l .column) w) (omega arith) in
+          ap (λ c. getD noted (v .left - (w + 1) + min c w) false) (held .1) ∙ group-note t a e (min (l .column) w) (omega arith) in
           let name : chosen w a i inner k l ≡ chosen w (t .what) i m k l =
-              ap (λ y. chosen w a i y k l) (mode ∙ ap (decided m) note) ∙ ap (λ d. chosen w d i m k l) (sym e) in
+          ap (λ y. chosen w a i y k l) (mode ∙ ap (decided m) note) ∙ ap (λ d. chosen w d i m k l) (sym e) in
           holds-as x _ _ _ _ name refl (g (group-task t a e (u .left) (same .left-is)) l here)

@@ -7,12 +7,12 @@ ghost use Rattle.std.specs.Of.Vec.{vec-items};
 ghost use Rattle.std.specs.Options.{Cases as BySome};
 ghost use Rattle.doc.specs.Nodes.{Row-of};
 ghost use Rattle.layout.specs.Entry.{Laid-out, refusal, Set-says};
-use cost::price::Mode;
 use crate::plan::Plan;
 use crate::reply::LINES_UNIT;
 use crate::reply::Reply;
 use crate::tree::Tree;
 use crate::workspace::Workspace;
+use cost::price::Mode;
 
 // A layout has at most so many bytes.
 pub use crate::writer::MOST_LAYOUT;
@@ -22,8 +22,11 @@ pub const MOST_WIDTH: u64 = 255;
 
 // The numbers of the refusals, in the order in which they are told.
 pub const NOT_DOCUMENT: u64 = 1;
+
 pub const TOO_WIDE: u64 = 2;
+
 pub const TOO_LONG: u64 = 3;
+
 pub const NO_ROOM: u64 = 4;
 
 // A width that can be.

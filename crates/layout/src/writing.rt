@@ -7,13 +7,14 @@ ghost use lib.ListN.{length, getD};
 ghost use Rattle.cost.specs.Layout.{Layout, with-text, with-line};
 ghost use Rattle.cost.specs.Chosen.{decided};
 ghost use Rattle.layout.specs.Writing.{Holds, Same-but-left, Task, Writes};
-use cost::price::Mode;
 use crate::plan::Plan;
 use crate::writer::MOST_LAYOUT;
 use crate::writer::Writer;
+use cost::price::Mode;
 use doc::node::Kind;
 
 const NEWLINE: u8 = 10;
+
 const BLANK: u8 = 32;
 
 impl Writer {
@@ -60,13 +61,7 @@ impl Writer {
         let breaks = plan.notes[self.left + self.column.min(plan.width)];
         match mode {
             Mode::Flat => Mode::Flat,
-            Mode::Broken => {
-                if breaks {
-                    Mode::Broken
-                } else {
-                    Mode::Flat
-                }
-            }
+            Mode::Broken => { if breaks { Mode::Broken } else { Mode::Flat } }
         }
     }
 

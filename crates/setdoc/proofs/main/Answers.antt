@@ -9,5 +9,5 @@ pub part-write-all-end : need.part-write-all-end
 part-write-all-end c =
     let told = input-within _ _ _ _ (c .lay-out-reply .ensures) in
     let within : c .length-len .result ≤ length (c .as-slice-in-Lines .result .now) =
-        omega (arith, told, c .length-len .ensures, c .as-slice-in-Lines .ensures .len, c .as-mut-slice .ensures .len) in
+    omega (arith, told, c .length-len .ensures, c .as-slice-in-Lines .ensures .len, c .as-mut-slice .ensures .len) in
     search needs

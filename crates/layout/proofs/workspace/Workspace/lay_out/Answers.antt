@@ -48,8 +48,8 @@ returns c =
     let u = c .write .last .self in
     let r = lent _ _ _ (c .as-slice-nodes .ensures) (c .pre .read) in
     let whole =
-        whole-written _ _ r (c .args .width) _ (c .begin-2 .last .self) u
-        (c .as-slice-notes .ensures .value ∙ whole-notes _ _ r (c .args .width) (c .begin .last .self) (c .search .last .self) (b .width) (b .row) (b .offset .0) (b .notes) (c .search .ensures))
-        (v .empty) (v .column) (v .lines) (v .left) (v .full) (c .write .ensures .writes) in
+    whole-written _ _ r (c .args .width) _ (c .begin-2 .last .self) u
+    (c .as-slice-notes .ensures .value ∙ whole-notes _ _ r (c .args .width) (c .begin .last .self) (c .search .last .self) (b .width) (b .row) (b .offset .0) (b .notes) (c .search .ensures))
+    (v .empty) (v .column) (v .lines) (v .left) (v .full) (c .write .ensures .writes) in
     let best : (vec-items (u .out) ≡ the-best (c .args .spelled .now) (c .args .width) .out) × (u .lines ≡ the-best (c .args .spelled .now) (c .args .width) .lines) = when-false _ _ (c .if-self .left) whole in
     (best .1, omega (arith, u .fewer, u .short), best .0, omega (arith, u .short, u .out .ok .0))

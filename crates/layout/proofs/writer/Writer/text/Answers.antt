@@ -16,6 +16,6 @@ returns c =
     record {
       stops = λ e. e;
       writes = λ l left h.
-        text-wrote _ _ _ _ _ _ l left _
-        (c .extend-from-slice .ensures .items ∙ cond-true _ _ _ (c .extend-from-slice .ensures .succeeds (omega (arith, c .args .self .now .room)))) h;
+          text-wrote _ _ _ _ _ _ l left _
+          (c .extend-from-slice .ensures .items ∙ cond-true _ _ _ (c .extend-from-slice .ensures .succeeds (omega (arith, c .args .self .now .room)))) h;
     }
