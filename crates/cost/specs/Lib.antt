@@ -5,3 +5,4 @@ pub mod Price
 pub mod Row
 pub mod ToGo
 pub mod Chosen
+pub mod Laws

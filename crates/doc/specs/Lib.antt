@@ -3,3 +3,4 @@ pub mod Encoding
 pub mod Nodes
 pub mod Reading
 pub mod Standing
+pub mod Laws
