@@ -14,7 +14,7 @@ unfolding wins
 wins-trans a l b m c n h k = grind (arith, tells)
 
 -- where neither wins against the next, the first does not against the last
-wins-not-trans : (a l b m c n : ℕ) → wins a l b m ≡ false → wins b m c n ≡ false → wins a l c n ≡ false
+pub wins-not-trans : (a l b m c n : ℕ) → wins a l b m ≡ false → wins b m c n ≡ false → wins a l c n ≡ false
 unfolding wins
 wins-not-trans a l b m c n h k = grind (arith, tells)
 
@@ -34,7 +34,7 @@ first-of-assoc w s t u = go (better w t s) (better w u t) refl refl
     go false false e f = let g : better w u s ≡ false = wins-not-trans _ _ _ _ _ _ f e in cc
 
 -- a layout in front can be compared last
-best-of-first : (w : ℕ) (s t : Layout) (ts : List Layout) → best-of w (first-of w s t) ts ≡ first-of w s (best-of w t ts)
+pub best-of-first : (w : ℕ) (s t : Layout) (ts : List Layout) → best-of w (first-of w s t) ts ≡ first-of w s (best-of w t ts)
 unfolding best-of
 best-of-first w s t [] = refl
 best-of-first w s t (u ∷ ts) = ap (λ v. best-of w v ts) (first-of-assoc w s t u) ∙ best-of-first w s (first-of w t u) ts

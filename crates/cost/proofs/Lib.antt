@@ -1,10 +1,17 @@
+pub mod Bracketing
 pub mod Capped
 pub mod Choosing
 pub mod Chosen
 pub mod Counted
+pub mod Counts
+pub mod Each
 pub mod Few
+pub mod First
 pub mod Level
 pub mod Merging
 pub mod Notes
+pub mod OneLine
+pub mod Signs
 pub mod Tells
 pub mod ToGo
+pub mod Wider

@@ -15,7 +15,7 @@ use Rattle.cost.specs.declared.price.Mode.the-variants.{Flat, Broken}
 use Rattle.cost.proofs.Choosing.{wins-shift, first-best-++, through-++, through-through, through-one, through-alone}
 
 -- k is, from each column on, the best of what K goes on with, behind any layout
-record Met (w : ℕ) (K : Layout → List Layout) (k : ℕ → Layout) : Type 0 where
+pub record Met (w : ℕ) (K : Layout → List Layout) (k : ℕ → Layout) : Type 0 where
   pub some : (s : Layout) → 0 < length (K s)
   pub is : (s : Layout) → first-best w (K s) ≡ extend s (k (s .column))
 
@@ -61,7 +61,7 @@ group-met w K F G f g Flat h k = h
 group-met w K F G f g Broken h k = simp through-++ (either-met w (λ s. through K (F s)) (λ s. through K (G s)) f g h k)
 
 -- by the document, with anything behind it
-met : (w : ℕ) (d : Doc) (i : ℕ) (m : Mode) (K : Layout → List Layout) (k : ℕ → Layout) → Met w K k → Met w (λ s. through K (layouts w d i m s)) (to-go w d i m k)
+pub met : (w : ℕ) (d : Doc) (i : ℕ) (m : Mode) (K : Layout → List Layout) (k : ℕ → Layout) → Met w K k → Met w (λ s. through K (layouts w d i m s)) (to-go w d i m k)
 unfolding layouts to-go
 met w nil i m K k h = step w h (λ s. s) k (λ s. refl)
 met w (text t) i m K k h = text-met w h t
@@ -71,7 +71,7 @@ met w line i m K k h = line-met w h i m
 met w (group a) i m K k h = group-met w K _ _ _ _ m (met w a i Flat K k h) (met w a i Broken K k h)
 
 -- at the end of a document nothing is behind it
-stop-met : (w : ℕ) → Met w (λ s. s ∷ []) stop
+pub stop-met : (w : ℕ) → Met w (λ s. s ∷ []) stop
 unfolding first-best best-of
 stop-met w = record { some = λ s. omega arith; is = λ s. simp (append-nil, add-zero) }
 

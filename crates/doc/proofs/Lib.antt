@@ -1,3 +1,4 @@
+pub mod Encoded
 pub mod Parsing
 pub mod Shapes
 pub mod Sizes

@@ -1,0 +1,12 @@
+// Tests of the entry and of the reader. What they expect is worked out by hand from docs/format.md.
+#[cfg(test)]
+mod desk;
+#[cfg(test)]
+mod edges;
+#[cfg(test)]
+mod keeping;
+#[cfg(test)]
+mod refused;
+pub mod sample;
+#[cfg(test)]
+mod worked;
