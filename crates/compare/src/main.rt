@@ -12,7 +12,7 @@ use std::alloc::AllocError;
 use std::alloc::Global;
 use std::error::AnyError;
 
-const DOCUMENTS: u64 = 4_000;
+const DOCUMENTS: u64 = 3_000;
 const SEED: u64 = 20_261_117;
 
 // Every document is compared as it is, and every eighth with a byte damaged.
