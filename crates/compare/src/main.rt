@@ -37,7 +37,8 @@ fn main(rt: LibcRuntime) -> Result<(), AnyError> {
     compare_all(heap, &mut judge)?;
     let tally = judge.tally;
     println!(rt, "{} documents, {} not documents, {} layouts", tally.documents, tally.refused, tally.layouts)?;
-    println!(rt, "{} comparisons, {} without room", tally.passed, tally.short)?;
+    let compared = tally.passed.saturating_add(tally.failed);
+    println!(rt, "{compared} comparisons, {} without room", tally.short)?;
     println!(rt, "{} where a printer that looks at the group alone differs", tally.greedy)?;
     println!(rt, "{} where several layouts are as good", tally.ties)?;
     println!(rt, "{} passed, {} failed", tally.passed, tally.failed)?;

@@ -1,0 +1,2 @@
+// Documents from brackets, separators and words, by rules given in a row.
+pub mod rule;
