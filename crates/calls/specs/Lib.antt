@@ -1,2 +1,4 @@
+pub mod Lexing
+pub mod Parsing
 pub mod Tokens
 pub mod Values

@@ -18,6 +18,7 @@ marks (r ∷ rs) c = eqb c (r .open) || (eqb c (r .close) || (eqb c (r .separato
 abbrev pub in-word : List Rule → ℕ → Bool
 in-word rs c = not (blank c) && not (marks rs c)
 
+-- a word, or a bracket or separator
 pub data Token : Type 0 where
   word : List ℕ → Token
   mark : ℕ → Token
@@ -27,6 +28,7 @@ pub record Placed : Type 0 where
   pub at : ℕ
   pub token : Token
 
+-- a token at a position
 abbrev pub place : ℕ → Token → Placed
 place p t = record { at = p; token = t }
 
@@ -40,6 +42,7 @@ abbrev pub longer : ℕ → Token → Token
 longer c (word w) = word (c ∷ w)
 longer c (mark m) = mark m
 
+-- a byte at a position, before the word that comes first
 abbrev pub lengthen : (p c : ℕ) → List Placed → List Placed
 lengthen p c [] = []
 lengthen p c (t ∷ ts) = place p (longer c (t .token)) ∷ ts

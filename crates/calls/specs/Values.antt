@@ -15,6 +15,7 @@ pub data Values : Type 0 where
   plain : List ℕ → Values → Values
   list : List ℕ → Rule → Values → Values → Values
 
+-- there is no value
 abbrev pub is-none : Values → Bool
 is-none none = true
 is-none (plain w vs) = false
@@ -37,13 +38,16 @@ abbrev pub all-in-word : List Rule → List ℕ → Bool
 all-in-word rs [] = true
 all-in-word rs (c ∷ cs) = in-word rs c && all-in-word rs cs
 
+-- two rules are the same
 abbrev pub same-rule : Rule → Rule → Bool
 same-rule q r = eqb (q .open) (r .open) && (eqb (q .close) (r .close) && (eqb (q .separator) (r .separator) && eqb (q .indent) (r .indent)))
 
+-- a rule is among others
 abbrev pub has-rule : List Rule → Rule → Bool
 has-rule [] r = false
 has-rule (q ∷ rs) r = same-rule q r || has-rule rs r
 
+-- there is no byte
 abbrev pub empty : List ℕ → Bool
 empty [] = true
 empty (c ∷ cs) = false
@@ -67,11 +71,13 @@ fresh (q ∷ rs) r =
     (not (eqb (q .open) (r .open)) && (not (eqb (q .open) (r .close)) && (not (eqb (q .close) (r .open)) && (not (eqb (q .open) (r .separator)) && (not (eqb (q .close) (r .separator)) && (not (eqb (q .separator) (r .open)) && not (eqb (q .separator) (r .close))))))))
     && fresh rs r
 
+-- the brackets and the separator of one rule differ, and none is a blank
 abbrev pub sound-rule : Rule → Bool
 sound-rule r =
     (not (blank (r .open)) && (not (blank (r .close)) && not (blank (r .separator))))
     && (not (eqb (r .open) (r .close)) && (not (eqb (r .open) (r .separator)) && not (eqb (r .close) (r .separator))))
 
+-- of no two rules is a byte taken for another
 unfoldable pub unambiguous : List Rule → Bool
 unambiguous [] = true
 unambiguous (r ∷ rs) = sound-rule r && (fresh rs r && unambiguous rs)
@@ -97,6 +103,7 @@ unfoldable pub texts : ℕ → List ℕ → Doc
 texts zero w = text w
 texts (suc n) w = cond (leb (length w) 255) (text w) (cat (text (take 255 w)) (texts n (drop 255 w)))
 
+-- a word's document
 abbrev pub word-doc : List ℕ → Doc
 word-doc w = texts (length w) w
 

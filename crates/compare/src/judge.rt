@@ -1,8 +1,8 @@
 // Holds the printer against a search through all layouts.
 use crate::plain::Setter;
 use doc::nodes::Nodes;
-use layout::entry::NOT_DOCUMENT;
 use layout::entry::NO_ROOM;
+use layout::entry::NOT_DOCUMENT;
 use layout::entry::TOO_WIDE;
 use layout::entry::set;
 use layout::reply::Reply;
@@ -11,8 +11,54 @@ use std::alloc::AllocError;
 use std::alloc::Global;
 
 // Every width up to 40, and some up to the largest.
-const WIDTHS: [u64; 47] = [
-    0, 1, 2, 3, 4, 5, 6, 7, 8, 9, 10, 11, 12, 13, 14, 15, 16, 17, 18, 19, 20, 21, 22, 23, 24, 25, 26, 27, 28, 29, 30, 31, 32, 33, 34, 35, 36, 37, 38, 39, 40, 50, 63, 80, 127, 200, 255,
+pub const WIDTHS: [u64; 47] = [
+    0,
+    1,
+    2,
+    3,
+    4,
+    5,
+    6,
+    7,
+    8,
+    9,
+    10,
+    11,
+    12,
+    13,
+    14,
+    15,
+    16,
+    17,
+    18,
+    19,
+    20,
+    21,
+    22,
+    23,
+    24,
+    25,
+    26,
+    27,
+    28,
+    29,
+    30,
+    31,
+    32,
+    33,
+    34,
+    35,
+    36,
+    37,
+    38,
+    39,
+    40,
+    50,
+    63,
+    80,
+    127,
+    200,
+    255,
 ];
 
 // What came out, in numbers.
@@ -50,10 +96,7 @@ impl Found {
     // The better of this and another layout, and of equals this one.
     fn or(self, beyond: u64, lines: u64, number: u64) -> Found {
         if self.some && beyond == self.beyond && lines == self.lines {
-            return Found {
-                tied: true,
-                ..self
-            };
+            return Found { tied: true, ..self };
         }
         if self.some && (beyond > self.beyond || beyond == self.beyond && lines > self.lines) {
             return self;
@@ -105,7 +148,13 @@ impl Judge {
     }
 
     // Whether the printer refuses with a number, and leaves the buffer as it was.
-    fn refuses(&mut self, spelled: &[u8], width: u64, len: usize, number: u64) -> Result<bool, AllocError> {
+    fn refuses(
+        &mut self,
+        spelled: &[u8],
+        width: u64,
+        len: usize,
+        number: u64,
+    ) -> Result<bool, AllocError> {
         self.out.clear();
         self.out.resize(len, 7)?;
         let reply = set(&mut self.room, spelled, width, self.out.as_mut_slice());
@@ -120,7 +169,13 @@ impl Judge {
     }
 
     // Whether the printer gives this layout, and leaves the rest of a longer buffer as it was.
-    fn gives(&mut self, spelled: &[u8], width: u64, text: &[u8], lines: u64) -> Result<bool, AllocError> {
+    fn gives(
+        &mut self,
+        spelled: &[u8],
+        width: u64,
+        text: &[u8],
+        lines: u64,
+    ) -> Result<bool, AllocError> {
         let len = text.len().saturating_add(3);
         self.out.clear();
         self.out.resize(len, 7)?;
@@ -149,7 +204,13 @@ impl Judge {
     }
 
     // Compares the best layout at one width, with room for it and with less.
-    fn width(&mut self, setter: &mut Setter, best: Found, width: u64, room: usize) -> Result<(), AllocError> {
+    fn width(
+        &mut self,
+        setter: &mut Setter,
+        best: Found,
+        width: u64,
+        room: usize,
+    ) -> Result<(), AllocError> {
         let spelled = setter.spelled;
         setter.greedy(width)?;
         let mut greedy = Vec::new(self.heap);
@@ -172,7 +233,12 @@ impl Judge {
     }
 
     // Compares one encoding at every width, and at one that cannot be.
-    pub fn document(&mut self, nodes: &mut Nodes, spelled: &[u8], room: usize) -> Result<(), AllocError> {
+    pub fn document(
+        &mut self,
+        nodes: &mut Nodes,
+        spelled: &[u8],
+        room: usize,
+    ) -> Result<(), AllocError> {
         let Ok(()) = nodes.read(spelled) else {
             self.tally.refused = self.tally.refused.saturating_add(1);
             let right = self.refuses(spelled, 256, room, NOT_DOCUMENT)?;
@@ -182,7 +248,12 @@ impl Judge {
         self.tally.documents = self.tally.documents.saturating_add(1);
         let right = self.refuses(spelled, 256, room, TOO_WIDE)?;
         self.note(right);
-        let mut setter = Setter::new(nodes.as_slice(), spelled, Vec::new(self.heap), Vec::new(self.heap));
+        let mut setter = Setter::new(
+            nodes.as_slice(),
+            spelled,
+            Vec::new(self.heap),
+            Vec::new(self.heap),
+        );
         let mut found = vec![in self.heap; Found::NONE; WIDTHS.len()]?;
         for number in 0..setter.numbers() {
             if setter.layout(number)? {

@@ -13,6 +13,7 @@ use std::alloc::Global;
 use std::error::AnyError;
 
 const DOCUMENTS: u64 = 3_000;
+
 const SEED: u64 = 20_261_117;
 
 // Every document is compared as it is, and every eighth with a byte damaged.
@@ -36,10 +37,21 @@ fn main(rt: LibcRuntime) -> Result<(), AnyError> {
     let mut judge = Judge::new(heap, Workspace::new(heap)?);
     compare_all(heap, &mut judge)?;
     let tally = judge.tally;
-    println!(rt, "{} documents, {} not documents, {} layouts", tally.documents, tally.refused, tally.layouts)?;
+    println!(
+        rt,
+        "{} documents at {} widths, {} not documents, {} layouts",
+        tally.documents,
+        judge::WIDTHS.len(),
+        tally.refused,
+        tally.layouts
+    )?;
     let compared = tally.passed.saturating_add(tally.failed);
     println!(rt, "{compared} comparisons, {} without room", tally.short)?;
-    println!(rt, "{} where a printer that looks at the group alone differs", tally.greedy)?;
+    println!(
+        rt,
+        "{} where a printer that looks at the group alone differs",
+        tally.greedy
+    )?;
     println!(rt, "{} where several layouts are as good", tally.ties)?;
     println!(rt, "{} passed, {} failed", tally.passed, tally.failed)?;
     if tally.failed > 0 {

@@ -21,7 +21,12 @@ pub struct Setter<'n, 's> {
 }
 
 impl<'n, 's> Setter<'n, 's> {
-    pub fn new(nodes: &'n [Node], spelled: &'s [u8], out: Vec<u8>, lengths: Vec<u64>) -> Setter<'n, 's> {
+    pub fn new(
+        nodes: &'n [Node],
+        spelled: &'s [u8],
+        out: Vec<u8>,
+        lengths: Vec<u64>,
+    ) -> Setter<'n, 's> {
         let mut groups = 0u64;
         for node in nodes {
             if let Kind::Group = node.kind {
@@ -129,7 +134,10 @@ impl<'n, 's> Setter<'n, 's> {
 
     // Whether the group at an index is flat, within a flat one or not.
     fn decide(&mut self, at: usize, end: usize, flat: bool) -> bool {
-        let shift = self.groups.saturating_sub(self.seen).saturating_sub(1).min(63);
+        let shift = self.groups
+            .saturating_sub(self.seen)
+            .saturating_sub(1)
+            .min(63);
         self.seen = self.seen.saturating_add(1);
         let broken = (self.broken >> shift) & 1 == 1;
         if let Some(width) = self.greedy {

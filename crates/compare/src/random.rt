@@ -13,9 +13,7 @@ pub struct Random {
 
 impl Random {
     pub fn new(seed: u64) -> Random {
-        Random {
-            state: seed | 1,
-        }
+        Random { state: seed | 1 }
     }
 
     // A number below n, or 0.

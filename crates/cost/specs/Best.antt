@@ -14,6 +14,7 @@ beyond w s = s .over + (s .column - w)
 unfoldable pub wins : (beyond₁ lines₁ beyond₂ lines₂ : ℕ) → Bool
 wins b l c m = ltb b c || (eqb b c && ltb l m)
 
+-- one layout is better than another
 abbrev pub better : ℕ → Layout → Layout → Bool
 better w s t = wins (beyond w s) (s .lines) (beyond w t) (t .lines)
 
@@ -21,6 +22,7 @@ better w s t = wins (beyond w s) (s .lines) (beyond w t) (t .lines)
 abbrev pub first-of : ℕ → Layout → Layout → Layout
 first-of w s t = cond (better w t s) t s
 
+-- the best of a layout and those behind it
 unfoldable pub best-of : ℕ → Layout → List Layout → Layout
 best-of w s [] = s
 best-of w s (t ∷ ts) = best-of w (first-of w s t) ts
@@ -30,5 +32,6 @@ unfoldable pub first-best : ℕ → List Layout → Layout
 first-best w [] = empty
 first-best w (s ∷ ss) = best-of w s ss
 
+-- the best layout of a document at a width
 abbrev pub best : ℕ → Doc → Layout
 best w d = first-best w (all-layouts w d)

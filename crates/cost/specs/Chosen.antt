@@ -36,6 +36,7 @@ abbrev pub decided : Mode → Bool → Mode
 decided Flat b = Flat
 decided Broken b = cond b Broken Flat
 
+-- a line in a mode
 abbrev pub line-chosen : (w i : ℕ) → Mode → Layout → Layout
 line-chosen w i Flat s = with-text (32 ∷ []) s
 line-chosen w i Broken s = with-line w i s

@@ -19,6 +19,7 @@ pub record First-best (w : ℕ) (d : Doc) : Type 0 where
   pub none-better : Every (λ s. better w s (best w d) ≡ false) (all-layouts w d)
   pub first : Every (λ s. better w (best w d) s ≡ true) before
 
+-- the best layout is the first of those than which none is better
 abbrev pub Best-is-first : Type 0
 Best-is-first = (w : ℕ) (d : Doc) → First-best w d
 
@@ -71,6 +72,7 @@ pub record Bracketing (w : ℕ) (a b c : Doc) : Type 0 where
   pub nothing-before : all-layouts w (cat nil a) ≡ all-layouts w a
   pub nothing-after : all-layouts w (cat a nil) ≡ all-layouts w a
 
+-- how documents behind each other are bracketed does not matter
 abbrev pub Brackets-alike : Type 0
 Brackets-alike = (w : ℕ) (a b c : Doc) → Bracketing w a b c
 

@@ -6,6 +6,7 @@ use Rattle.cost.specs.Layout.{Layout}
 use Rattle.cost.specs.Best.{beyond, wins}
 use Rattle.cost.specs.declared.price.Cost.{Cost}
 
+-- one cost is less than another
 abbrev pub beats : Cost → Cost → Bool
 beats a b = wins (a .beyond) (a .lines) (b .beyond) (b .lines)
 

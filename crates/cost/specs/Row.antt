@@ -11,6 +11,7 @@ use Rattle.cost.specs.Best.{beyond}
 use Rattle.cost.specs.Price.{price, further}
 use Rattle.cost.specs.declared.price.Cost.{Cost}
 
+-- what nothing costs
 abbrev pub no-cost : Cost
 no-cost = record { beyond = 0; lines = 0 }
 

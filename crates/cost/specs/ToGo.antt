@@ -22,10 +22,12 @@ then-text t k c =
 abbrev pub then-line : (w i : ℕ) → (ℕ → Layout) → ℕ → Layout
 then-line w i k c = record { out = 10 ∷ (replicate i 32 ++ (k i .out)); column = k i .column; over = (c - w) + (k i .over); lines = suc (k i .lines) }
 
+-- a line in a mode, and then the rest
 abbrev pub line-to-go : (w i : ℕ) → Mode → (ℕ → Layout) → ℕ → Layout
 line-to-go w i Flat k c = then-text (32 ∷ []) k c
 line-to-go w i Broken k c = then-line w i k c
 
+-- a group in a mode, from the best of its flat layouts and of its broken ones
 abbrev pub group-to-go : ℕ → Mode → (flat broken : Layout) → Layout
 group-to-go w Flat flat broken = flat
 group-to-go w Broken flat broken = first-of w flat broken

@@ -22,6 +22,7 @@ values (v ∷ u ∷ vs) = cats (line ∷ v ∷ text (codes ",") ∷ values (u �
 unfoldable pub call : List ℕ → List Doc → Doc
 call name vs = group (cats (text (name ++ codes "(") ∷ nest 2 (values vs) ∷ line ∷ text (codes ")") ∷ []))
 
+-- a line that is given a name, with a call in a call
 unfoldable pub worked-call : Doc
 worked-call =
     cats
@@ -45,14 +46,17 @@ on-lines (t ∷ u ∷ ts) = t ++ (10 ∷ on-lines (u ∷ ts))
 unfoldable pub Best-is : ℕ → Doc → List (List ℕ) → (over lines : ℕ) → Type 0
 Best-is w d ts over lines = (best w d .out ≡ on-lines ts) × (beyond w (best w d) ≡ over) × (best w d .lines ≡ lines)
 
+-- its layout with the inner call flat
 unfoldable pub slice-flat : List (List ℕ)
 slice-flat = codes "let x = put(" ∷ codes "  bread," ∷ codes "  slice( cheese, thin )," ∷ codes "  salt" ∷ codes ")" ∷ codes "in x" ∷ []
 
+-- its layout with both calls broken
 unfoldable pub all-broken : List (List ℕ)
 all-broken =
     codes "let x = put(" ∷ codes "  bread," ∷ codes "  slice(" ∷ codes "    cheese," ∷ codes "    thin" ∷ codes "  )," ∷ codes "  salt" ∷ codes ")"
     ∷ codes "in x" ∷ []
 
+-- the best layouts at some widths
 abbrev pub Worked-layouts : Type 0
 Worked-layouts =
     Best-is 60 worked-call (codes "let x = put( bread, slice( cheese, thin ), salt )" ∷ codes "in x" ∷ []) 0 1

@@ -31,6 +31,7 @@ spells (nest k a) = 2 + spells a
 spells line = 1
 spells (group a) = 1 + spells a
 
+-- a node of a kind, and where it ends
 abbrev pub node : Kind → ℕ → Node
 node k e = record { kind = k; end = e }
 

@@ -39,6 +39,7 @@ pub record Read-on (s : List ℕ) (at : ℕ) (old new : List Node) (next : ℕ) 
   pub row-is : new ≡ old ++ laid what at (length old)
   pub spelled : Spelled s what at
 
+-- what reading one document answers: where it ends, if there is one
 abbrev pub Reads-on : List ℕ → ℕ → (old new : List Node) → Option ℕ → Type 0
 Reads-on s at old new r = BySome r (Not-read s at) (Read-on s at old new)
 

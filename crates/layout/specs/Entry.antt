@@ -19,6 +19,7 @@ use Rattle.layout.specs.declared.reply.Reply.the-variants.{Lines, Refused}
 abbrev pub length-refusal : (length room : ℕ) → ℕ
 length-refusal n room = cond (leb n 131072) (cond (leb n room) 0 4) 3
 
+-- the number of the first refusal that applies to what was read
 abbrev pub refusal-of : (width room : ℕ) → Option Doc → ℕ
 refusal-of w room None = 1
 refusal-of w room (Some d) = cond (leb w 255) (length-refusal (length (best w d .out)) room) 2
@@ -31,11 +32,12 @@ refusal spelled width room = refusal-of width room (decode spelled)
 unfoldable pub the-best : (spelled : List ℕ) → (width : ℕ) → Layout
 the-best spelled width = best width (valueOr (decode spelled) nil)
 
--- how long the layout is that an answer tells of, and how many lines ended
+-- how long the layout is that an answer tells of
 abbrev pub reply-length : Reply → ℕ
 reply-length (Lines n) = n % 4294967296
 reply-length (Refused n) = 0
 
+-- how many lines ended in the layout that an answer tells of
 abbrev pub reply-lines : Reply → ℕ
 reply-lines (Lines n) = n / 4294967296
 reply-lines (Refused n) = 0

@@ -57,5 +57,6 @@ pub record Merged (under kept : List Cost) (v : Search) (reach : ℕ) (u : Searc
   pub row-is : vec-items (u .row) ≡ below (λ c. cheaper (along kept (c + reach)) (along (vec-items (v .row)) (c + v .offset))) (suc (v .width))
   pub notes-are : vec-items (u .notes) ≡ vec-items (v .notes) ++ below (λ c. beats (along (vec-items (v .row)) (c + v .offset)) (along kept (c + reach))) (suc (v .width))
 
+-- the same, for whatever lies under the last row
 abbrev pub Merges : Search → ℕ → Search → Type 0
 Merges v reach u = (under kept : List Cost) → vec-items (v .saved) ≡ under ++ kept → length kept ≡ v .width + 1 → Merged under kept v reach u

@@ -20,6 +20,7 @@ abbrev pub Wrote : (full : Bool) → List ℕ → (column lines left : ℕ) → 
 Wrote full out column lines left l n =
     When full (131072 < length (l .out)) ((out ≡ l .out) × (column ≡ l .column) × (lines ≡ l .lines) × (left ≡ n))
 
+-- what a writer holds
 abbrev pub Holds : Writer → Layout → ℕ → Type 0
 Holds v l n = Wrote (v .full) (vec-items (v .out)) (v .column) (v .lines) (v .left) l n
 
