@@ -1,5 +1,11 @@
+pub mod Called
+pub mod Emitted
+pub mod Encodable
 pub mod ReadBack
 pub mod Rules
 pub mod Scanning
 pub mod Sound
+pub mod Stacked
+pub mod Stacks
+pub mod Texts
 pub mod Told

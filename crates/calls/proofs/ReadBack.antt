@@ -51,7 +51,7 @@ inside-by it r p vs ts ys t xs e m =
 
 module _ (rs : List Rule) (u : unambiguous rs ≡ true) where
   -- a bracket that opens does not close
-  open-not-close : (q r : Rule) → has-rule rs q ≡ true → has-rule rs r ≡ true → eqb (q .open) (r .close) ≡ false
+  pub open-not-close : (q r : Rule) → has-rule rs q ≡ true → has-rule rs r ≡ true → eqb (q .open) (r .close) ≡ false
   open-not-close q r h k =
       ne-eqb _ _
       (λ e.

@@ -1,4 +1,9 @@
+pub mod Calling
+pub mod Checking
+pub mod Emitting
+pub mod Filling
 pub mod Lexing
+pub mod Machine
 pub mod Parsing
 pub mod Tokens
 pub mod Values

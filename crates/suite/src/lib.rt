@@ -1,5 +1,7 @@
 // Tests of the entry and of the reader. What they expect is worked out by hand from docs/format.md.
 #[cfg(test)]
+mod called;
+#[cfg(test)]
 mod desk;
 #[cfg(test)]
 mod edges;
