@@ -8,18 +8,19 @@ use lib.ListN.{length}
 use Rattle.std.specs.declared.option.Option.{Option}
 use Rattle.std.specs.declared.option.Option.the-variants.{Some, None}
 use Rattle.doc.specs.Laws.{encode}
+use Rattle.doc.proofs.Encoded.{encoded as read-back}
 use Rattle.doc.proofs.Parsing.{whole-long}
 use Rattle.layout.specs.Entry.{refusal, Set-says}
 use Rattle.layout.specs.declared.reply.Reply.{Reply}
 use Rattle.layout.specs.declared.reply.Reply.the-variants.{Refused}
-use Rattle.layout.proofs.Answering.{no-document, says-refused}
+use Rattle.layout.proofs.Answering.{best-is, no-document, says-refused}
 use Rattle.calls.specs.Tokens.{Placed, tokens}
 use Rattle.calls.specs.Values.{Values, unambiguous, Reads-as, bare, spelled, value-doc}
 use Rattle.calls.specs.Parsing.{Fault, Parsed, faulty, read, then-parsed, last, extra, value, items, no-value, whole, parse}
 use Rattle.calls.specs.Machine.{machine, a-value, verdict}
 use Rattle.calls.specs.Emitting.{emit}
 use Rattle.calls.specs.Checking.{fault-of, Tells}
-use Rattle.calls.specs.Calling.{Call-says}
+use Rattle.calls.specs.Calling.{Call-says, Lays-out-value}
 use Rattle.calls.specs.declared.call.CallError.the-variants.{Faulty}
 use Rattle.calls.specs.declared.reader.Fault as code
 use Rattle.calls.specs.declared.rule.Rule.{Rule}
@@ -29,6 +30,7 @@ use Rattle.calls.proofs.Sound.{parse-sound}
 use Rattle.calls.proofs.ReadBack.{parse-complete}
 use Rattle.calls.proofs.Stacked.{machine-tells}
 use Rattle.calls.proofs.Emitted.{emits-value}
+use Rattle.calls.proofs.Encodable.{value-encodable}
 
 -- what is read of a whole source has nothing behind it
 pub record Whole (p : Parsed) : Type 0 where
@@ -92,3 +94,8 @@ module _ (rs : List Rule) (source : List ℕ) (w : ℕ) (out exit : List ℕ) (u
     pub laid-answer : (bs : List ℕ) (r : Reply) → bs ≡ emit rs [] false (bare (tokens rs 0 source)) → Set-says bs w out (refusal bs w (length out)) r exit → Call-says rs source w out (Ok r) exit
     laid-answer bs r e says =
         (u, record { what = value-there .0; reads = value-there .1; says = subst (λ x. Set-says x w out (refusal x w (length out)) r exit) (e ∙ bytes-are) says })
+
+-- a value's document is read back from its encoding
+pub lays-out-value : Lays-out-value
+lays-out-value rs v w u formed bytes few =
+    best-is (encode (value-doc v)) w 0 (value-doc v) (read-back (value-doc v) (value-encodable rs v u formed bytes) few .0)

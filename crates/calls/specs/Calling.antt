@@ -2,16 +2,18 @@
 use mathlib.Core.Path.{_≡_}
 use mathlib.Core.Bool.{true, false}
 use mathlib.Core.List.{List, []}
-use Prim.Native.Nat.{ℕ}
+use Prim.Native.Nat.{ℕ, _≤_}
 use lib.ListN.{length}
 use Rattle.std.specs.declared.result.Result.{Result}
 use Rattle.std.specs.declared.result.Result.the-variants.{Ok, Err}
 use Rattle.doc.specs.Laws.{encode}
-use Rattle.layout.specs.Entry.{refusal, Set-says}
+use Rattle.cost.specs.Best.{best}
+use Rattle.layout.specs.Entry.{refusal, the-best, Set-says}
 use Rattle.layout.specs.declared.reply.Reply.{Reply}
-use Rattle.calls.specs.Values.{Values, unambiguous, Reads-as, value-doc}
+use Rattle.calls.specs.Values.{Values, unambiguous, well-formed, Reads-as, value-doc}
 use Rattle.calls.specs.Parsing.{faulty, parse}
 use Rattle.calls.specs.Checking.{fault-of}
+use Rattle.calls.specs.Emitting.{value-bytes}
 use Rattle.calls.specs.declared.rule.Rule.{Rule}
 use Rattle.calls.specs.declared.call.CallError.{CallError}
 use Rattle.calls.specs.declared.call.CallError.the-variants.{Ambiguous, Faulty, NoMemory}
@@ -29,3 +31,9 @@ Call-says rs source width out (Err Ambiguous) out₁ = (unambiguous rs ≡ false
 Call-says rs source width out (Err (Faulty f)) out₁ =
     (unambiguous rs ≡ true) × (parse rs source ≡ faulty (fault-of f)) × ((v : Values) → Reads-as rs source v → ⊥) × (out₁ ≡ out)
 Call-says rs source width out (Err NoMemory) out₁ = out₁ ≡ out
+
+-- the document that is laid out is the value's: what is best for its encoding is the best of its own layouts
+abbrev pub Lays-out-value : Type 0
+Lays-out-value =
+    (rs : List Rule) (v : Values) (w : ℕ) → unambiguous rs ≡ true → well-formed rs v ≡ true → value-bytes v ≡ true → length (encode (value-doc v)) ≤ 65536 →
+    the-best (encode (value-doc v)) w ≡ best w (value-doc v)

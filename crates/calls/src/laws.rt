@@ -1,4 +1,5 @@
 // Theorems about the definitions, each the contract of a function, so that the check asks for its proof.
+ghost use Rattle.calls.specs.Calling.{Lays-out-value};
 ghost use Rattle.calls.specs.Emitting.{Emits-value, Value-encodable};
 ghost use Rattle.calls.specs.Machine.{Machine-tells};
 ghost use Rattle.calls.specs.Parsing.{Parse-complete, Parse-sound};
@@ -42,6 +43,13 @@ pub fn emits_value() -> u8
 // A value's document can be encoded, where its words and rules fit in bytes and the rules are not ambiguous.
 pub fn value_encodable() -> u8
     ensures { λ _. ⌜ Value-encodable ⌝ }
+{
+    0
+}
+
+// The document that is laid out is the value's: it is read back from its encoding.
+pub fn lays_out_value() -> u8
+    ensures { λ _. ⌜ Lays-out-value ⌝ }
 {
     0
 }

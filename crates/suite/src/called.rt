@@ -127,3 +127,23 @@ fn deep_sources(rt: LibcRuntime) -> Result<(), Fail> {
     };
     check_eq(n, 1)
 }
+
+// A word that is longer than a text may be is set whole.
+#[test]
+fn long_word(rt: LibcRuntime) -> Result<(), Fail> {
+    let heap = rt.alloc();
+    let mut room = CallRoom::new(heap)?;
+    let source = vec![in heap; b'a'; 600]?;
+    let mut out = vec![in heap; 7u8; 601]?;
+    let Ok(reply) = set_call(
+        &mut room,
+        &DEFAULT,
+        source.as_slice(),
+        80,
+        out.as_mut_slice(),
+    ) else {
+        return Err(Fail::new("faulty"));
+    };
+    check_eq(reply.length(), 600)?;
+    check(out.as_slice().starts_with(source.as_slice()))
+}
