@@ -1,4 +1,6 @@
 // bench: lays a document out many times in one workspace, and prints what each stage takes.
+#![tactic(auto)]
+
 mod timer;
 
 use crate::timer::Timer;

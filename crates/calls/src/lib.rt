@@ -1,4 +1,6 @@
 // Documents from brackets, separators and words, by rules given in a row.
+#![tactic(auto)]
+
 pub mod call;
 pub mod calling;
 mod encoder;

@@ -1,4 +1,6 @@
 // compare: random documents at many widths, laid out by the printer and by a search through all layouts.
+#![tactic(auto)]
+
 mod judge;
 mod plain;
 mod random;

@@ -1,4 +1,6 @@
 // Documents as bytes and as rows of nodes.
+#![tactic(auto)]
+
 pub mod laws;
 pub mod node;
 pub mod nodes;

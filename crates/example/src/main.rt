@@ -1,4 +1,6 @@
 // example: how another crate lays out a document with the library. It prints one document at two widths.
+#![tactic(auto)]
+
 use anyhow::anyhow;
 use layout::entry::set;
 use layout::reply::Reply;

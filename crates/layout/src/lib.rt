@@ -1,4 +1,6 @@
 // The best layout of a document: found from the right, written from the left.
+#![tactic(auto)]
+
 pub mod entry;
 mod plan;
 pub mod reply;

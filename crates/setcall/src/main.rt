@@ -1,4 +1,6 @@
 // setcall: reads a source of brackets, commas and words from standard input, and prints its best layout.
+#![tactic(auto)]
+
 mod report;
 
 use crate::report::{describe, place};

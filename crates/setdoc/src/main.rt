@@ -1,4 +1,6 @@
 // setdoc: reads a width and an encoded document from standard input, and prints the best layout.
+#![tactic(auto)]
+
 ghost use Rattle.setdoc.specs.Input.{InputSays};
 
 use anyhow::anyhow;

@@ -1,4 +1,6 @@
 // Tests of the entry and of the reader. What they expect is worked out by hand from docs/format.md.
+#![tactic(auto)]
+
 #[cfg(test)]
 mod called;
 #[cfg(test)]
