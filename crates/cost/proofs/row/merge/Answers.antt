@@ -32,7 +32,7 @@ loop-c-preserved c =
     picked whole parted best _ _ better c.along-whole.ensures (c.along-parted.ensures ∙ unchanged) c.beats-better.ensures way in
     let note : better ≡ g at = is.1 in
     let more = pushed_below g at (vec_items c.args.notes.now) in
-    (replaced_more f old at row best under is.0 c.loop-c.invariant.0, (cc (c.push-reserved.ensures.items, c.loop-c.invariant.1)), omega arith, omega arith)
+    (replaced_more f old at row best under is.0 c.loop-c.invariant.0, (cc (c.push_reserved.ensures.items, c.loop-c.invariant.1)), omega arith, omega arith)
 
 pub returns : goal.returns
 returns c =
