@@ -27,11 +27,11 @@ pub search-requires-in-Group : goal.search-requires-in-Group
 search-requires-in-Group t c =
     (omega (arith, within _ _ _ _ c.requires, c.decreases), group_quest _ _ _ _ c.requires c.in-Group.is _ c.save.ensures)
 
-pub overflow-sub-self : goal.overflow-sub-self
-overflow-sub-self t c = omega (arith, (group_ready _ _ _ _ c.requires c.in-Group.is _ c.save.ensures _ c.search-in-Group.ensures).further)
+pub overflow_sub-self : goal.overflow_sub-self
+overflow_sub-self t c = omega (arith, (group_ready _ _ _ _ c.requires c.in-Group.is _ c.save.ensures _ c.search-in-Group.ensures).further)
 
-pub merge-saved-requires : goal.merge-saved-requires
-merge-saved-requires t c =
+pub merge_saved-requires : goal.merge_saved-requires
+merge_saved-requires t c =
     let ready = group_ready _ _ _ _ c.requires c.in-Group.is _ c.save.ensures _ c.search-in-Group.ensures in
     record {
       kept = ready.kept;
@@ -58,4 +58,4 @@ returns-in-Line t c =
 
 pub returns-in-Group : goal.returns-in-Group
 returns-in-Group t c =
-    group_found _ _ _ _ _ _ _ _ c.in-Group.is c.requires.near c.save.ensures c.search-in-Group.ensures refl c.merge-saved.ensures
+    group_found _ _ _ _ _ _ _ _ c.in-Group.is c.requires.near c.save.ensures c.search-in-Group.ensures refl c.merge_saved.ensures

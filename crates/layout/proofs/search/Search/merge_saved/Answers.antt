@@ -11,8 +11,8 @@ returns c = λ under kept is long.
     let base : ℕ = c.len.result - w - 1 in
     let base_is : base ≡ length c.args.self.now.saved.items - w - 1 = omega (arith, c.len.ensures, c.args.self.now.saved.ok.0) in
     let wide : length c.args.self.now.row.items ≡ w + 1 = omega (arith, c.args.self.now.row.ok.0, c.args.self.now.long) in
-    let broken = c.as-mut-slice.ensures in
-    let flat = last_kept w base _ under kept is long base_is c.as-slice.result.now _ c.as-slice.ensures.value refl in
+    let broken = c.as_mut_slice.ensures in
+    let flat = last_kept w base _ under kept is long base_is c.as_slice.result.now _ c.as_slice.ensures.value refl in
     record {
       same_width = refl;
       same_flat = refl;

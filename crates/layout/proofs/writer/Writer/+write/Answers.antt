@@ -10,65 +10,65 @@ cut a n = omega arith
 pub returns-then-self : goal.returns-then-self
 returns-then-self n c = record { stops = λ e. e; writes = λ t l h. stays_full c.args.self.now c.args.self.now _ _ _ _ _ l _ _ c.if-self.true c.if-self.true h }
 
-pub offset-bounds-plan-at : goal.offset-bounds-plan-at
-offset-bounds-plan-at n c = let t = c.requires.task c.if-self.false in omega (arith, place t, t.few)
+pub offset_bounds-plan-at : goal.offset_bounds-plan-at
+offset_bounds-plan-at n c = let t = c.requires.task c.if-self.false in omega (arith, place t, t.few)
 
 pub bounds-plan-at : goal.bounds-plan-at
 bounds-plan-at n c = place (c.requires.task c.if-self.false)
 
-pub slice-bounds-text-end : goal.slice-bounds-text-end
-slice-bounds-text-end n c =
+pub slice_bounds-text-end : goal.slice_bounds-text-end
+slice_bounds-text-end n c =
     let q = text_ready _ _ _ _ _ _ c.args.mode c.args.self.now _ _ c.in-Text.is (c.requires.task c.if-self.false) in
     let h : c.in-Text.start + c.in-Text.len ≤ length c.args.plan.now.source.now = q.0 in
     search rules
 
-pub overflow-add-second : goal.overflow-add-second
-overflow-add-second n c = let t = c.requires.task c.if-self.false in omega (arith, place t, t.few)
+pub overflow_add-second : goal.overflow_add-second
+overflow_add-second n c = let t = c.requires.task c.if-self.false in omega (arith, place t, t.few)
 
-pub offset-bounds-plan-at-in-Cat : goal.offset-bounds-plan-at-in-Cat
-offset-bounds-plan-at-in-Cat n c = let t = c.requires.task c.if-self.false in omega (arith, place t, t.few)
+pub offset_bounds-plan-at-in-Cat : goal.offset_bounds-plan-at-in-Cat
+offset_bounds-plan-at-in-Cat n c = let t = c.requires.task c.if-self.false in omega (arith, place t, t.few)
 
 pub bounds-plan-at-in-Cat : goal.bounds-plan-at-in-Cat
 bounds-plan-at-in-Cat n c = (cat_places _ _ _ _ _ _ c.args.mode c.args.self.now c.in-Cat.is (c.requires.task c.if-self.false)).0
 
-pub overflow-add-at : goal.overflow-add-at
-overflow-add-at n c = let t = c.requires.task c.if-self.false in omega (arith, place t, t.few)
+pub overflow_add-at : goal.overflow_add-at
+overflow_add-at n c = let t = c.requires.task c.if-self.false in omega (arith, place t, t.few)
 
 pub write-requires : goal.write-requires
-write-requires n c κs =
+write-requires n c =
     let t = c.requires.task c.if-self.false in
     (omega (arith, place t, c.decreases), (c.requires.narrow, λ _. first_ready _ _ _ _ _ _ c.args.mode c.args.self.now c.in-Cat.is t))
 
 pub write-requires-in-Cat : goal.write-requires-in-Cat
-write-requires-in-Cat n c κs =
+write-requires-in-Cat n c =
     let t = c.requires.task c.if-self.false in
     let q = cat_places _ _ _ _ _ _ c.args.mode c.args.self.now c.in-Cat.is t in
     (omega (arith, place t, c.decreases, q.1), (c.requires.narrow, λ g. second_ready _ _ _ _ _ _ c.args.mode c.args.self.now c.in-Cat.is c.write.new.self c.write.ensures.writes t c.if-self.false g))
 
-pub overflow-add-at-in-Nest : goal.overflow-add-at-in-Nest
-overflow-add-at-in-Nest n c = let t = c.requires.task c.if-self.false in omega (arith, place t, t.few)
+pub overflow_add-at-in-Nest : goal.overflow_add-at-in-Nest
+overflow_add-at-in-Nest n c = let t = c.requires.task c.if-self.false in omega (arith, place t, t.few)
 
-pub overflow-add-indent : goal.overflow-add-indent
-overflow-add-indent n c = let t = c.requires.task c.if-self.false in omega (arith, place t, t.few, t.shallow)
+pub overflow_add-indent : goal.overflow_add-indent
+overflow_add-indent n c = let t = c.requires.task c.if-self.false in omega (arith, place t, t.few, t.shallow)
 
 pub write-requires-in-Nest : goal.write-requires-in-Nest
-write-requires-in-Nest n c κs =
+write-requires-in-Nest n c =
     let t = c.requires.task c.if-self.false in
     (omega (arith, place t, c.decreases), (c.requires.narrow, λ _. nest_ready _ _ _ _ _ _ c.args.mode c.args.self.now _ c.in-Nest.is t))
 
 pub newline-requires : goal.newline-requires
-newline-requires n c κs = let t = c.requires.task c.if-self.false in omega (arith, place t, t.few, t.shallow)
+newline-requires n c = let t = c.requires.task c.if-self.false in omega (arith, place t, t.few, t.shallow)
 
 pub decide-inner-requires : goal.decide-inner-requires
-decide-inner-requires n c κs =
+decide-inner-requires n c =
     let q = group_places _ _ _ _ _ _ c.args.mode c.args.self.now c.in-Group.is (c.requires.task c.if-self.false) in
     record { narrow = c.requires.narrow; some = q.0; within = q.1 }
 
-pub overflow-add-at-in-Group : goal.overflow-add-at-in-Group
-overflow-add-at-in-Group n c = let t = c.requires.task c.if-self.false in omega (arith, place t, t.few)
+pub overflow_add-at-in-Group : goal.overflow_add-at-in-Group
+overflow_add-at-in-Group n c = let t = c.requires.task c.if-self.false in omega (arith, place t, t.few)
 
 pub write-requires-in-Group : goal.write-requires-in-Group
-write-requires-in-Group n c κs =
+write-requires-in-Group n c =
     let t = c.requires.task c.if-self.false in
     (omega (arith, place t, c.decreases), (c.requires.narrow, λ _. group_ready _ _ _ _ _ _ c.args.mode c.args.self.now c.in-Group.is c.decide-inner.new.self c.decide-inner.ensures.same t))
 
@@ -89,8 +89,8 @@ returns-in-Nest n c = record { stops = c.write-in-Nest.ensures.stops; writes = n
 
 pub returns-in-Flat : goal.returns-in-Flat
 returns-in-Flat n c = record {
-  stops = c.text_in-Flat.ensures.stops;
-  writes = line_writes _ _ _ _ _ _ _ c.args.self.now c.text_in-Flat.new.self c.in-Line.is (flat_line _ _ _ c.args.self.now c.text_in-Flat.new.self c.in-Flat.is c.text_in-Flat.ensures.writes);
+  stops = c.text-in-Flat.ensures.stops;
+  writes = line_writes _ _ _ _ _ _ _ c.args.self.now c.text-in-Flat.new.self c.in-Line.is (flat_line _ _ _ c.args.self.now c.text-in-Flat.new.self c.in-Flat.is c.text-in-Flat.ensures.writes);
 }
 
 pub returns-in-Broken : goal.returns-in-Broken
