@@ -1,11 +1,11 @@
 -- A layout has at least as many bytes as it has beyond the width. Assumes nothing.
-use Rattle.std.proofs.Common.{◌≡◌, ℕ, ◌+◌, ◌≤◌, List, [], ◌∷◌, length, replicate, sym, subst, arith, length-append}
+use Rattle.std.proofs.Common.{ℕ, ◌+◌, ◌≤◌, List, [], ◌∷◌, length, sym, subst, arith, length-append}
 use lib.ListN.{length-replicate}
 use Rattle.std.proofs.lemmas.Bool.{cond_both}
 use Rattle.doc.specs.Doc.{Doc, nil, text, cat, nest, line, group}
 use Rattle.cost.specs.Layout.{Layout}
-use Rattle.cost.specs.Best.{beyond, best, first_of}
-use Rattle.cost.specs.ToGo.{stop, then_text, then_line, line_to_go, group_to_go, to_go}
+use Rattle.cost.specs.Best.{beyond, best}
+use Rattle.cost.specs.ToGo.{stop, then_text, line_to_go, group_to_go, to_go}
 use Rattle.cost.specs.declared.price.Mode.{Mode}
 use Rattle.cost.specs.declared.price.Mode.TheVariants.{Flat, Broken}
 use Rattle.cost.proofs.ToGo.{best_to_go}

@@ -1,5 +1,5 @@
 -- What may be relied on, said of all documents and widths. Each is a statement, whose proof a function of `laws` asks for. Assumes nothing.
-use Rattle.std.specs.Prelude.{◌≡◌, ℕ, suc, ◌+◌, ◌≤◌, Bool, true, false, cond, not, ◌&&◌, ◌||◌, List, [], ◌∷◌, ◌++◌, length, ◌==◌, nat_lt}
+use Rattle.std.specs.Prelude.{◌≡◌, ℕ, suc, ◌+◌, ◌≤◌, true, false, cond, ◌||◌, List, [], ◌∷◌, ◌++◌, length, ◌==◌, nat_lt}
 use Rattle.std.specs.List.{AllByRecursion}
 use Rattle.doc.specs.Doc.{Doc, nil, text, cat, nest, line, group}
 use Rattle.doc.specs.Laws.{plain}

@@ -1,7 +1,7 @@
 -- The best layout of what is left of a document, by the column where it begins. Assumes nothing: these are definitions.
 use Rattle.std.specs.Prelude.{◌≡◌, ℕ, suc, ◌+◌, ◌-◌, List, [], ◌∷◌, ◌++◌, length, replicate}
 use Rattle.doc.specs.Doc.{Doc, nil, text, cat, nest, line, group}
-use Rattle.cost.specs.Layout.{Layout, empty}
+use Rattle.cost.specs.Layout.{Layout}
 use Rattle.cost.specs.Best.{best, first_of}
 use Rattle.cost.specs.declared.price.Mode.{Mode}
 use Rattle.cost.specs.declared.price.Mode.TheVariants.{Flat, Broken}

@@ -1,9 +1,9 @@
 -- Each way of reading a document, from what stands at its first byte. Assumes nothing.
-use Rattle.std.proofs.Common.{◌≡◌, ℕ, zero, suc, ◌+◌, ◌<◌, ◌≤◌, true, false, not, ◌&&◌, eqb, leb, List, [], ◌∷◌, ◌++◌, length, get_or, take, drop, set, Some, None, sym, refl, ap, ◌∙◌, subst, append_assoc, add_assoc, arith, length-append, length-drop}
+use Rattle.std.proofs.Common.{◌≡◌, ℕ, zero, suc, ◌+◌, ◌<◌, ◌≤◌, false, List, [], ◌∷◌, ◌++◌, length, get_or, take, drop, None, sym, refl, ap, ◌∙◌, subst, append_assoc, arith, length-append, length-drop}
 use Rattle.std.proofs.lemmas.List.{drop_all, drop_more, drop-drop, set_at, get_or_at, length-take-le}
 use Rattle.std.proofs.lemmas.Bool.{cond-false, cond-true, and_from, le-leb, lt-leb, not_from_false, ne_eqb}
 use Rattle.doc.specs.Doc.{Doc, nil, text, cat, nest, line, group}
-use Rattle.doc.specs.Encoding.{Parse, doc, no_doc, has_newline, read_byte, read_text, then_read, reads, whole, decode}
+use Rattle.doc.specs.Encoding.{Parse, doc, no_doc, has_newline, read_byte, read_text, then_read, reads, decode}
 use Rattle.doc.specs.Nodes.{size, spells, laid, node, Spelled, RowOf}
 use Rattle.doc.specs.Reading.{NotRead, ReadOn, closed, no_node}
 use Rattle.doc.specs.declared.node.Kind.{Kind}

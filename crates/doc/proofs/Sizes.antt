@@ -1,5 +1,5 @@
 -- How many nodes and bytes a document has. Assumes nothing.
-use Rattle.std.proofs.Common.{◌≡◌, ℕ, suc, ◌+◌, ◌<◌, ◌≤◌, List, [], ◌∷◌, ◌++◌, length, sym, refl, ap, ◌∙◌, arith, length-append}
+use Rattle.std.proofs.Common.{◌≡◌, ℕ, suc, ◌+◌, ◌<◌, ◌≤◌, length, refl, ap, ◌∙◌, arith, length-append}
 use Rattle.doc.specs.Doc.{Doc, nil, text, cat, nest, line, group}
 use Rattle.doc.specs.Nodes.{size, spells, laid}
 

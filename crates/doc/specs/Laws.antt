@@ -1,6 +1,5 @@
 -- What may be relied on of the encoding. Each is a statement, whose proof a function of `laws` asks for. Assumes nothing.
 use Rattle.std.specs.Prelude.{◌≡◌, ℕ, ◌≤◌, Bool, true, not, ◌&&◌, List, [], ◌∷◌, ◌++◌, length, Some, nat_le}
-use Rattle.std.specs.List.{AllByRecursion}
 use Rattle.doc.specs.Doc.{Doc, nil, text, cat, nest, line, group}
 use Rattle.doc.specs.Encoding.{has_newline, decode}
 

@@ -1,7 +1,7 @@
 -- What each step of reading answers. Assumes nothing: these are definitions.
-use Rattle.std.specs.Prelude.{◌≡◌, ℕ, ◌+◌, ◌<◌, ◌≤◌, false, List, [], ◌++◌, length, take, drop, Some, None, Option, Result, MatchOption, MatchResult, slice_index, slice_index_or, slice_set}
+use Rattle.std.specs.Prelude.{◌≡◌, ℕ, ◌+◌, ◌<◌, ◌≤◌, false, List, [], ◌++◌, length, take, drop, None, Option, Result, MatchOption, MatchResult, slice_index, slice_index_or, slice_set}
 use Rattle.doc.specs.Doc.{Doc}
-use Rattle.doc.specs.Encoding.{Parse, doc, no_doc, has_newline, read_byte, read_text, reads, decode}
+use Rattle.doc.specs.Encoding.{doc, no_doc, has_newline, read_byte, read_text, reads, decode}
 use Rattle.doc.specs.Nodes.{spells, laid, Spelled, RowOf, refusal_number, node}
 use Rattle.doc.specs.declared.node.Kind.TheVariants.{Nil}
 use Rattle.doc.specs.declared.node.Node.{Node}

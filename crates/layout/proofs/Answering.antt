@@ -1,15 +1,15 @@
 -- Which refusal applies, and that what was written is the best layout. Assumes nothing.
-use Rattle.std.proofs.Common.{◌≡◌, ℕ, suc, ◌+◌, ◌*◌, ◌<◌, ◌≤◌, Bool, true, false, List, [], ◌++◌, length, drop, replicate, Some, None, vec_items, MatchBool, unwrap_or, sym, refl, ap, ◌∙◌, subst, ⊎_elim, append-nil, arith}
+use Rattle.std.proofs.Common.{◌≡◌, ℕ, suc, ◌+◌, ◌*◌, ◌<◌, ◌≤◌, Bool, false, List, [], ◌++◌, length, drop, replicate, Some, None, vec_items, MatchBool, unwrap_or, sym, refl, ap, ◌∙◌, subst, ⊎_elim, append-nil, arith}
 use Rattle.std.proofs.lemmas.List.{take_all}
 use Rattle.std.proofs.lemmas.Bool.{cond-true, cond-false, le-leb, lt-leb, cases_Bool, cases_lt}
 use Rattle.doc.specs.Doc.{Doc, nil}
 use Rattle.doc.specs.Encoding.{decode}
-use Rattle.doc.specs.Nodes.{size, laid, RowOf}
+use Rattle.doc.specs.Nodes.{size, RowOf}
 use Rattle.doc.specs.Standing.{Stands}
 use Rattle.doc.specs.declared.node.Node.{Node}
 use Rattle.doc.proofs.Shapes.{laid_stands}
 use Rattle.doc.proofs.Sizes.{length_laid}
-use Rattle.cost.specs.Layout.{Layout, empty}
+use Rattle.cost.specs.Layout.{empty}
 use Rattle.cost.specs.Best.{beyond, best}
 use Rattle.cost.specs.Price.{limit}
 use Rattle.cost.specs.ToGo.{stop}

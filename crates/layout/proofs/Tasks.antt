@@ -1,10 +1,10 @@
 -- What is to be written of a document's parts, and what has been written in the end. Assumes nothing.
-use Rattle.std.proofs.Common.{◌≡◌, ℕ, suc, ◌+◌, ◌-◌, ◌*◌, ◌<◌, ◌≤◌, min, Bool, true, false, cond, List, [], ◌∷◌, ◌++◌, length, get_or, take, drop, vec_items, MatchBool, sym, refl, ap, ◌∙◌, subst, ⊎_elim, append_assoc, append-nil, arith, length-append, length-take}
+use Rattle.std.proofs.Common.{◌≡◌, ℕ, suc, ◌+◌, ◌-◌, ◌<◌, ◌≤◌, min, Bool, true, false, List, [], ◌∷◌, ◌++◌, length, get_or, take, drop, vec_items, MatchBool, sym, refl, ap, ◌∙◌, subst, ⊎_elim, append_assoc, append-nil, arith, length-append}
 use Rattle.std.proofs.lemmas.List.{take_at, take-take, length-take-le, get_or-append_right, get_or-take}
 use Rattle.doc.specs.Doc.{Doc, nil, text, cat, nest, line, group}
 use Rattle.doc.specs.Nodes.{size, spells, Spelled}
 use Rattle.doc.specs.Reading.{no_node}
-use Rattle.doc.specs.Standing.{Is, Stands}
+use Rattle.doc.specs.Standing.{Stands}
 use Rattle.doc.specs.declared.node.Kind.{Kind}
 use Rattle.doc.specs.declared.node.Kind.TheVariants.{Nil, Text, Cat, Nest, Line, Group}
 use Rattle.doc.specs.declared.node.Node.{Node}

@@ -1,4 +1,4 @@
-use Rattle.std.proofs.Common.{◌≡◌, sym, ◌∙◌, arith}
+use Rattle.std.proofs.Common.{sym, ◌∙◌, arith}
 use Rattle.doc.proofs.Parsing.{none_left, no_tag, nil_read, line_read, text_read, not_text, cat_read, not_first, not_second, nest_read, not_byte, not_nested, group_read, not_grouped, read_fits, longer}
 use Rattle.doc.proofs.nodes.Nodes.+document.Goals as goal
 

@@ -1,5 +1,4 @@
-use Rattle.std.proofs.Common.{◌≡◌, ℕ, ◌+◌, ◌-◌, ◌≤◌, length, take, drop, sym, refl, ap, ◌∙◌, arith, rules}
-use Rattle.layout.specs.Writing.{Task}
+use Rattle.std.proofs.Common.{◌≡◌, ℕ, ◌+◌, ◌-◌, ◌≤◌, length, take, drop, ap, ◌∙◌, arith, rules}
 use Rattle.layout.proofs.Tasks.{place, stays_full, text_ready, nil_writes, text_writes, line_writes, flat_line, broken_line, nest_ready, nest_writes, cat_places, first_ready, second_ready, cat_writes, group_places, group_ready, group_writes}
 use Rattle.layout.proofs.writer.Writer.+write.Goals as goal
 
