@@ -8,8 +8,8 @@ use Rattle.layout.specs.declared.reply.Reply.{Reply}
 use Rattle.layout.specs.declared.reply.Reply.TheVariants.{Refused}
 use Rattle.layout.proofs.Answering.{best_is, no_document, says_refused}
 use Rattle.calls.specs.Tokens.{Placed, tokens}
-use Rattle.calls.specs.Values.{Values, unambiguous, ReadsAs, bare, spelled, value_doc}
-use Rattle.calls.specs.Parsing.{Fault, Parsed, faulty, read, then_parsed, last, extra, value, items, no_value, whole, parse}
+use Rattle.calls.specs.Values.{Values, unambiguous, ReadsAs, bare, value_doc}
+use Rattle.calls.specs.Parsing.{Fault, Parsed, faulty, read, then_parsed, last, value, items, no_value, parse}
 use Rattle.calls.specs.Machine.{machine, a_value, verdict}
 use Rattle.calls.specs.Emitting.{emit}
 use Rattle.calls.specs.Checking.{fault_of, Tells}

@@ -1,5 +1,5 @@
 -- What a mark's byte is, where the rules are not ambiguous. Assumes nothing.
-use Rattle.std.proofs.Common.{◌≡◌, true, false, not, eqb, List, [], ◌∷◌, Some, None, refl, ◌∙◌, subst, inl, inr, arith}
+use Rattle.std.proofs.Common.{◌≡◌, true, false, eqb, List, [], ◌∷◌, Some, None, refl, ◌∙◌, subst, inl, inr, arith}
 use borrow.Author.Tests.{clash}
 use Rattle.std.proofs.lemmas.Bool.{and_parts, or_cases, eq-eqb, cond-true, cond-false}
 use Rattle.std.proofs.lemmas.Bool.Decides.{nat_tests}

@@ -1,5 +1,5 @@
 -- What laying out a call answers, and what it leaves in the output buffer. Assumes nothing: these are definitions.
-use Rattle.std.specs.Prelude.{◌≡◌, ℕ, ◌≤◌, true, false, List, [], length, Ok, Err, Result}
+use Rattle.std.specs.Prelude.{◌≡◌, ℕ, ◌≤◌, true, false, List, length, Ok, Err, Result}
 use Rattle.doc.specs.Laws.{encode}
 use Rattle.cost.specs.Best.{best}
 use Rattle.layout.specs.Entry.{refusal, the_best, SetSays}

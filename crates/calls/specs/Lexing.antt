@@ -1,5 +1,5 @@
 -- What each step of reading tokens answers. Assumes nothing: these are definitions.
-use Rattle.std.specs.Prelude.{◌≡◌, ℕ, ◌+◌, ◌-◌, ◌<◌, ◌≤◌, Bool, true, false, not, ◌&&◌, ◌||◌, List, [], ◌∷◌, length, drop, Option, MatchOption, ◌==◌, slice_index, slice_range}
+use Rattle.std.specs.Prelude.{◌≡◌, ℕ, ◌+◌, ◌<◌, ◌≤◌, Bool, true, false, not, ◌&&◌, ◌||◌, List, [], ◌∷◌, length, drop, Option, MatchOption, ◌==◌, slice_index, slice_range}
 use Rattle.calls.specs.Tokens.{Token, word, mark, place, blank, marks, word_next, tokens}
 use Rattle.calls.specs.Values.{all_in_word, empty}
 use Rattle.calls.specs.declared.lexer.Lexeme.{Lexeme}

@@ -1,7 +1,7 @@
 -- Reading tokens from the left with a stack of open brackets, as the code does. Assumes nothing: these are definitions.
-use Rattle.std.specs.Prelude.{◌≡◌, ℕ, Bool, true, false, cond, List, [], ◌∷◌, length, Some, None, Option, ◌==◌}
+use Rattle.std.specs.Prelude.{◌≡◌, ℕ, Bool, false, cond, List, [], ◌∷◌, length, Some, None, Option, ◌==◌}
 use Rattle.calls.specs.Tokens.{Token, word, mark, Placed, tokens}
-use Rattle.calls.specs.Parsing.{Fault, closes_nothing, left_open, no_value, behind, Parsed, faulty, read, opened_by, closes, opening, not_value, extra, is_mark, parse}
+use Rattle.calls.specs.Parsing.{Fault, closes_nothing, left_open, no_value, behind, Parsed, faulty, read, opened_by, closes, not_value, parse}
 use Rattle.calls.specs.declared.rule.Rule.{Rule}
 
 -- a bracket that is open: its rule, and its position

@@ -1,5 +1,5 @@
 -- The tokens of a source. Assumes nothing: these are definitions.
-use Rattle.std.specs.Prelude.{ℕ, suc, Bool, true, false, cond, not, ◌&&◌, ◌||◌, List, [], ◌∷◌, ◌==◌}
+use Rattle.std.specs.Prelude.{ℕ, suc, Bool, false, cond, not, ◌&&◌, ◌||◌, List, [], ◌∷◌, ◌==◌}
 use Rattle.calls.specs.declared.rule.Rule.{Rule}
 
 -- a blank, a tab, the end of a line: these mean nothing, but that a word ends

@@ -1,7 +1,7 @@
 -- Values: words, and lists of values in brackets; their tokens, and their documents. Assumes nothing: these are definitions.
 use Rattle.std.specs.Prelude.{◌≡◌, ℕ, zero, suc, Bool, true, false, cond, not, ◌&&◌, ◌||◌, List, [], ◌∷◌, ◌++◌, length, take, drop, ◌==◌, nat_le}
 use Rattle.doc.specs.Doc.{Doc, nil, text, cat, nest, line, group}
-use Rattle.calls.specs.Tokens.{Token, word, mark, Placed, blank, marks, in_word, tokens}
+use Rattle.calls.specs.Tokens.{Token, word, mark, Placed, blank, in_word, tokens}
 use Rattle.calls.specs.declared.rule.Rule.{Rule}
 
 -- values one behind the other: none; a word, and the rest; a list, by the word in front of it (of no bytes where there is none), its rule and its values, and the rest

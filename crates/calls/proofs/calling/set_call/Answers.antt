@@ -9,10 +9,10 @@ returns-in-Some c =
 
 pub returns-then-room : goal.returns-then-room
 returns-then-room c =
-    long_answer _ _ _ _ _ (sym c.unambiguous.ensures ∙ c.if-not-unambiguous.false) _ c.in-Ok.ensures c.in-default-found.is
+    long_answer _ _ _ _ _ (sym c.unambiguous.ensures ∙ c.if-not-unambiguous.false) _ c.in-Ok.ensures c.in_default-found.is
     (when_true _ _ c.if-room.true c.encode.ensures) refl
 
 pub returns : goal.returns
 returns c =
-    laid_answer _ _ _ _ _ (sym c.unambiguous.ensures ∙ c.if-not-unambiguous.false) _ c.in-Ok.ensures c.in-default-found.is
-    _ _ (c.as-slice.ensures.value ∙ when_false _ _ c.if-room.false c.encode.ensures) c.set.ensures
+    laid_answer _ _ _ _ _ (sym c.unambiguous.ensures ∙ c.if-not-unambiguous.false) _ c.in-Ok.ensures c.in_default-found.is
+    _ _ (c.as_slice.ensures.value ∙ when_false _ _ c.if-room.false c.encode.ensures) c.set.ensures

@@ -10,4 +10,4 @@ pub returns : goal.returns
 returns c =
     λ bs h.
     fits _ _ _ bs _
-    (c.extend-from-slice.ensures.items ∙ cond-true _ _ _ (c.extend-from-slice.ensures.succeeds (omega (arith, c.args.self.now.room, c.args.self.now.short)))) h
+    (c.extend_from_slice.ensures.items ∙ cond-true _ _ _ (c.extend_from_slice.ensures.succeeds (omega (arith, c.args.self.now.room, c.args.self.now.short)))) h

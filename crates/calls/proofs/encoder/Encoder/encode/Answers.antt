@@ -30,5 +30,5 @@ pub returns : goal.returns
 returns c =
     reached c.loop-lexeme.self c.held-2.new.self _ _ c.held-2.ensures
     (goes_as c.loop-lexeme.self _ _ _
-    (none_emitted c.args.source.now.rules.now c.loop-lexeme.waiting.now c.loop-lexeme.skip _ (ap bare c.in-default.ensures))
+    (none_emitted c.args.source.now.rules.now c.loop-lexeme.waiting.now c.loop-lexeme.skip _ (ap bare c.in_default.ensures))
     c.loop-lexeme.invariant)

@@ -14,6 +14,6 @@ loop-at-preserved c = (
 pub returns : goal.returns
 returns c =
     λ bs h.
-    reached c.loop-at.self c.word-end.new.self _ _
-    (adds_as c.loop-at.self c.word-end.new.self _ _ (rest_bytes c.args.name.now c.args.tail.now c.loop-at.at) c.word-end.ensures)
+    reached c.loop-at.self c.word_end.new.self _ _
+    (adds_as c.loop-at.self c.word_end.new.self _ _ (rest_bytes c.args.name.now c.args.tail.now c.loop-at.at) c.word_end.ensures)
     (c.loop-at.invariant.1 bs h)

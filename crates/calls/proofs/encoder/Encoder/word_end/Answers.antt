@@ -8,7 +8,7 @@ returns-then-name-tail-le255 c =
 
 pub returns : goal.returns
 returns c =
-    let q = c.split-at.ensures in
+    let q = c.split_at.ensures in
     adds_as c.args.self.now c.text-3.new.self _ _
     (end_bytes c.args.name.now c.args.tail.now _ _ q.by_index.0 (omega arith) (omega arith) (omega arith))
     (adds_then c.args.self.now c.bytes.new.self c.text-3.new.self _ _ c.bytes.ensures
