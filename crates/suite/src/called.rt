@@ -37,11 +37,11 @@ fn is_faulty(
     let mut out = [7u8; 4];
     let reply = set_call(room, &DEFAULT, source, 80, &mut out);
     let Err(CallError::Faulty(fault)) = reply else {
-        return Err(Fail::new("not faulty"));
+        return Err(Fail::new(format_args!("not faulty: the bytes {source:?}")));
     };
     let (kind, at) = letter(fault);
-    assert_eq!(rt; kind, what);
-    assert_eq!(rt; at, place);
+    assert_eq!(rt; kind, what, "the bytes {source:?}");
+    assert_eq!(rt; at, place, "the bytes {source:?}");
     assert_eq!(rt; out[0], 7);
     Ok(())
 }
@@ -87,7 +87,7 @@ fn faults(rt: HostRuntime) -> Result<(), Fail> {
         ("f(a b)", 'b', 4),
     ];
     for (source, what, place) in cases {
-        is_faulty(&rt, &mut room, source.as_bytes(), what, place).note(source)?;
+        is_faulty(&rt, &mut room, source.as_bytes(), what, place)?;
     }
     Ok(())
 }

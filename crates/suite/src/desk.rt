@@ -3,6 +3,7 @@ use layout::entry::set;
 use layout::reply::Reply;
 use layout::workspace::Workspace;
 use std::alloc::{AllocError, Global};
+use std::process::Abort;
 use std::test::*;
 
 #[derive(Drop)]
@@ -12,11 +13,10 @@ pub struct Desk {
 }
 
 // Each byte is still the one that the buffer was filled with.
-fn kept(bytes: &[u8]) -> Result<(), Fail> {
+fn kept(rt: &impl Abort, bytes: &[u8]) {
     for b in bytes {
-        assert_eq!(*b, 7);
+        assert_eq!(rt; *b, 7);
     }
-    Ok(())
 }
 
 impl Desk {
@@ -36,6 +36,7 @@ impl Desk {
     // The layout, its length and its lines; behind it the buffer is as it was.
     pub fn gives(
         &mut self,
+        rt: &impl Abort,
         spelled: &[u8],
         width: u64,
         layout: &[u8],
@@ -43,22 +44,30 @@ impl Desk {
     ) -> Result<(), Fail> {
         let reply = self.ask(spelled, width);
         if let Reply::Refused(n) = reply {
-            return Err(Fail::new(format_args!("refused with {n}")));
+            return Err(Fail::new(format_args!("refused with {n} at width {width}")));
         }
-        assert_eq!(reply.length(), layout.len());
-        assert_eq!(reply.lines(), lines);
+        assert_eq!(rt; reply.length(), layout.len(), "at width {width}");
+        assert_eq!(rt; reply.lines(), lines, "at width {width}");
         let Some(behind) = self.out.as_slice().strip_prefix(layout) else {
-            return Err(Fail::new("another layout"));
+            return Err(Fail::new(format_args!("another layout at width {width}")));
         };
-        kept(behind)
+        kept(rt, behind);
+        Ok(())
     }
 
     // The number of a refusal; all of the buffer is as it was.
-    pub fn refuses(&mut self, spelled: &[u8], width: u64, number: u64) -> Result<(), Fail> {
+    pub fn refuses(
+        &mut self,
+        rt: &impl Abort,
+        spelled: &[u8],
+        width: u64,
+        number: u64,
+    ) -> Result<(), Fail> {
         let Reply::Refused(n) = self.ask(spelled, width) else {
-            return Err(Fail::new("not refused"));
+            return Err(Fail::new(format_args!("not refused: the bytes {spelled:?}")));
         };
-        assert_eq!(n, number);
-        kept(self.out.as_slice())
+        assert_eq!(rt; n, number, "the bytes {spelled:?}");
+        kept(rt, self.out.as_slice());
+        Ok(())
     }
 }
