@@ -6,3 +6,5 @@ pub mod Row
 pub mod ToGo
 pub mod Chosen
 pub mod Laws
+pub mod Turns
+pub mod Pieces

@@ -10,6 +10,8 @@ pub enum Kind {
     Nest(u8),
     Line,
     Group,
+    // A filled group.
+    Fill,
 }
 
 #[derive(Clone, Copy)]

@@ -6,6 +6,5 @@ pub(crate) struct Plan<'a> {
     pub(crate) nodes: &'a [Node],
     pub(crate) source: &'a [u8],
     // The decisions that the search has noted, the first group's last.
-    pub(crate) notes: &'a [bool],
-    pub(crate) width: usize,
+    pub(crate) notes: &'a [u16],
 }
