@@ -1,8 +1,9 @@
 -- How documents behind each other are bracketed does not matter to their layouts.
 use Rattle.std.proofs.Common.{ap}
-use Rattle.cost.specs.Layout.{Broken, empty, layouts}
+use Rattle.cost.specs.Layout.{empty, layouts}
 use Rattle.cost.specs.Best.{first_best}
 use Rattle.cost.specs.Laws.{BracketsAlike}
+use Rattle.cost.specs.declared.price.Mode.TheVariants.{Broken}
 use Rattle.cost.proofs.Choosing.{through_through, through_one, through_alone}
 
 pub brackets_alike : BracketsAlike

@@ -5,13 +5,15 @@ use Rattle.std.proofs.ByRecursion.{All-weaker}
 use Rattle.std.proofs.lemmas.List.{length-replicate}
 use Rattle.std.proofs.lemmas.Bool.{and_parts, or_parts, not-true}
 use Rattle.std.proofs.lemmas.Bool.Decides.{nat_tests}
-use Rattle.doc.specs.Doc.{Doc, nil, text, cat, nest, line, group, fill}
+use Rattle.doc.specs.Doc.{Doc, nil, text, cat, nest, line, group}
 use Rattle.doc.specs.Encoding.{has_newline}
 use Rattle.doc.specs.Laws.{plain}
-use Rattle.cost.specs.Layout.{Layout, Mode, Flat, Broken, line_choice, group_choice, filled, empty, with_text, with_line, layouts, all_layouts}
+use Rattle.cost.specs.Layout.{Layout, empty, with_text, with_line, layouts, all_layouts}
 use Rattle.cost.specs.Best.{beyond}
 use Rattle.cost.specs.Laws.{ends, bytes_beyond, CountedRight}
-use Rattle.cost.proofs.Each.{each_through, each_choose}
+use Rattle.cost.specs.declared.price.Mode.{Mode}
+use Rattle.cost.specs.declared.price.Mode.TheVariants.{Flat, Broken}
+use Rattle.cost.proofs.Each.{each_through, each_line, each_group}
 
 -- with anything behind it, a layout has as many ends of lines and bytes beyond the width as are counted, and those of what is behind
 Counts : ℕ → Layout → Type 0
@@ -54,9 +56,8 @@ module _ (w : ℕ) where
       let both = and_parts _ _ p in
       each_through _ _ _ (layouts_count b both.1 i m) (layouts w a i m s) (layouts_count a both.0 i m s h)
   layouts_count (nest k a) p i m s h = layouts_count a p (k + i) m s h
-  layouts_count line p i m s h = each_choose _ (line_choice m) _ _ (text_counts (32 ∷ []) refl s h, tt) (line_counts i s h, tt)
-  layouts_count (group a) p i m s h = each_choose _ (group_choice m) _ _ (layouts_count a p i Flat s h) (layouts_count a p i Broken s h)
-  layouts_count (fill a) p i m s h = layouts_count a p i (filled m) s h
+  layouts_count line p i m s h = each_line _ w i m s (text_counts (32 ∷ []) refl s h) (line_counts i s h)
+  layouts_count (group a) p i m s h = each_group _ m _ _ (layouts_count a p i Flat s h) (layouts_count a p i Broken s h)
 
 pub counted_right : CountedRight
 unfolding Counts

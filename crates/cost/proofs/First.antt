@@ -3,9 +3,10 @@ use Rattle.std.proofs.Common.{◌≡◌, ℕ, ◌<◌, Bool, true, false, cond, 
 use Rattle.std.specs.List.{AllByRecursion}
 use Rattle.std.proofs.ByRecursion.{All-weaker}
 use Rattle.std.proofs.lemmas.Bool.Decides.{nat_tests}
-use Rattle.cost.specs.Layout.{Layout, Broken, empty, all_layouts}
+use Rattle.cost.specs.Layout.{Layout, empty, all_layouts}
 use Rattle.cost.specs.Best.{wins, better, first_of, best_of, first_best}
 use Rattle.cost.specs.Laws.{BestIsFirst}
+use Rattle.cost.specs.declared.price.Mode.TheVariants.{Broken}
 use Rattle.cost.proofs.Choosing.{wins_not_trans, best_of_first, through_alone}
 use Rattle.cost.proofs.ToGo.{met, stop_met}
 

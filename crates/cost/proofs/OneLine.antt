@@ -1,12 +1,14 @@
 -- A group is set on one line where what is behind it costs the least then. Assumes nothing.
-use Rattle.std.proofs.Common.{◌≡◌, ℕ, ◌+◌, ◌≤◌, false, List, [], ◌∷◌, ◌++◌, length, refl, ap, ◌∙◌, append_assoc, append-nil, add-zero, add_assoc, arith, length-append}
+use Rattle.std.proofs.Common.{◌≡◌, ℕ, ◌+◌, ◌≤◌, false, ◌++◌, length, refl, ap, ◌∙◌, append_assoc, append-nil, add-zero, add_assoc, arith, length-append}
 use Rattle.std.proofs.lemmas.Bool.{cond_both, cond-false}
 use Rattle.std.proofs.lemmas.Bool.Decides.{nat_tests}
-use Rattle.doc.specs.Doc.{Doc, nil, text, cat, nest, line, group, fill}
-use Rattle.cost.specs.Layout.{Layout, Mode, Flat, Broken, Filled, Choice, First, Second, Either, line_choice, group_choice, filled}
+use Rattle.doc.specs.Doc.{Doc, nil, text, cat, nest, line, group}
+use Rattle.cost.specs.Layout.{Layout}
 use Rattle.cost.specs.Best.{beyond, wins, best}
-use Rattle.cost.specs.ToGo.{stop, then_text, then_line, best_choice, to_go}
+use Rattle.cost.specs.ToGo.{stop, then_text, then_line, line_to_go, group_to_go, to_go}
 use Rattle.cost.specs.Laws.{flat_text, FitsOnOne, NotNeedlesslyBroken}
+use Rattle.cost.specs.declared.price.Mode.{Mode}
+use Rattle.cost.specs.declared.price.Mode.TheVariants.{Flat, Broken}
 use Rattle.cost.proofs.ToGo.{best_to_go}
 
 -- flat, a document is its text on one line
@@ -21,24 +23,19 @@ flat_to_go w (cat a b) i k c =
 flat_to_go w (nest j a) i k c = flat_to_go w a (j + i) k c
 flat_to_go w line i k c = refl
 flat_to_go w (group a) i k c = flat_to_go w a i k c
-flat_to_go w (fill a) i k c = flat_to_go w a i k c
-
--- text before what is left
-abbrev behind : List ℕ → Layout → Layout
-behind t s = record { out = t ++ s.out; column = s.column; over = s.over; lines = s.lines }
 
 -- from each column on, at least so many are beyond the width, and at least so many lines end
 abbrev Least : (w b l : ℕ) → (ℕ → Layout) → Type 0
 Least w b l k = (c : ℕ) → (b ≤ beyond w (k c)) × (l ≤ (k c).lines)
 
 module _ (w b l : ℕ) where
-  least_line : (i : ℕ) (k : ℕ → Layout) → Least w b l k → Least w b l (then_line w i k)
-  least_line i k h c = (omega (arith, h i), omega (arith, h i))
+  least_line : (i : ℕ) (m : Mode) (k : ℕ → Layout) → Least w b l k → Least w b l (line_to_go w i m k)
+  least_line i Flat k h c = h (c + 1)
+  least_line i Broken k h c = (omega (arith, h i), omega (arith, h i))
 
-  least_choice : (ch : Choice) (f g : ℕ → Layout) → Least w b l f → Least w b l g → Least w b l (λ c. best_choice w ch (f c) (g c))
-  least_choice First f g p q c = p c
-  least_choice Second f g p q c = q c
-  least_choice Either f g p q c = cond_both _ _ _ (λ (s : Layout). (b ≤ beyond w s) × (l ≤ s.lines)) (λ _. q c) (λ _. p c)
+  least_group : (m : Mode) (f g : ℕ → Layout) → Least w b l f → Least w b l g → Least w b l (λ c. group_to_go w m (f c) (g c))
+  least_group Flat f g p q c = p c
+  least_group Broken f g p q c = cond_both _ _ _ (λ (s : Layout). (b ≤ beyond w s) × (l ≤ s.lines)) (λ _. q c) (λ _. p c)
 
   -- what is the least behind a document is the least with it
   least_to_go : (d : Doc) (i : ℕ) (m : Mode) (k : ℕ → Layout) → Least w b l k → Least w b l (to_go w d i m k)
@@ -47,9 +44,8 @@ module _ (w b l : ℕ) where
   least_to_go (text t) i m k h = λ c. h (c + length t)
   least_to_go (cat a b) i m k h = least_to_go a i m (to_go w b i m k) (least_to_go b i m k h)
   least_to_go (nest j a) i m k h = least_to_go a (j + i) m k h
-  least_to_go line i m k h = least_choice (line_choice m) (then_text (32 ∷ []) k) (then_line w i k) (λ c. h (c + 1)) (least_line i k h)
-  least_to_go (group a) i m k h = least_choice (group_choice m) (to_go w a i Flat k) (to_go w a i Broken k) (least_to_go a i Flat k h) (least_to_go a i Broken k h)
-  least_to_go (fill a) i m k h = least_to_go a i (filled m) k h
+  least_to_go line i m k h = least_line i m k h
+  least_to_go (group a) i m k h = least_group m (to_go w a i Flat k) (to_go w a i Broken k) (least_to_go a i Flat k h) (least_to_go a i Broken k h)
 
 -- what has no less of both is not better
 pub not_less : (b l c m : ℕ) → c ≤ b → m ≤ l → wins b l c m ≡ false
@@ -66,36 +62,11 @@ group_flat w d i k c h =
     let least = least_to_go w _ _ d i Broken k h c in
     rw (flat_to_go w d i k c) (cond-false _ _ _ (not_less _ _ _ _ least.0 least.1))
 
--- a filled group is flat where what is behind it costs nothing then
-fill_flat :
-    (w : ℕ) (d : Doc) (i : ℕ) (k : ℕ → Layout) (c : ℕ) → beyond w (k (c + length (flat_text d))) ≡ 0 → (k (c + length (flat_text d))).lines ≡ 0 →
-    to_go w d i Filled k c ≡ then_text (flat_text d) k c
-unfolding to_go flat_text
-fill_flat w nil i k c h l = rw add-zero
-fill_flat w (text t) i k c h l = refl
-fill_flat w (cat a b) i k c h l =
-    let at : c + length (flat_text a) + length (flat_text b) ≡ c + length (flat_text a ++ flat_text b) = simp length-append (omega arith) in
-    let second : to_go w b i Filled k (c + length (flat_text a)) ≡ then_text (flat_text b) k (c + length (flat_text a)) =
-    fill_flat w b i k (c + length (flat_text a)) (ap (λ x. beyond w (k x)) at ∙ h) (ap (λ x. (k x).lines) at ∙ l) in
-    fill_flat w a i (to_go w b i Filled k) c (ap (beyond w) second ∙ ap (λ x. beyond w (k x)) at ∙ h) (ap (λ s. s.lines) second ∙ ap (λ x. (k x).lines) at ∙ l)
-    ∙ (λ j. behind (flat_text a) (second j))
-    ∙ simp (append_assoc, length-append, add_assoc)
-fill_flat w (nest j a) i k c h l = fill_flat w a (j + i) k c h l
-fill_flat w line i k c h l = cond-false _ _ _ (not_less _ _ _ _ (omega arith) (omega arith))
-fill_flat w (group a) i k c h l =
-    rw (flat_to_go w a i k c) (cond-false _ _ _ (not_less _ _ _ _ (omega arith) (omega arith)))
-fill_flat w (fill a) i k c h l = fill_flat w a i k c h l
-
 pub fits_on_one : FitsOnOne
-unfolding to_go
 fits_on_one w d h =
     let e : best w (group d) ≡ then_text (flat_text d) stop 0 =
     best_to_go w (group d) ∙ group_flat w d 0 stop 0 (λ c. (omega arith, omega arith)) in
-    let f : best w (fill d) ≡ then_text (flat_text d) stop 0 =
-    best_to_go w (fill d) ∙ fill_flat w d 0 stop 0 (omega arith) refl in (
-      (ap (λ s. s.out) e ∙ append-nil (flat_text d), ap (λ s. s.lines) e),
-      (ap (λ s. s.out) f ∙ append-nil (flat_text d), ap (λ s. s.lines) f),
-    )
+    (ap (λ s. s.out) e ∙ append-nil (flat_text d), ap (λ s. s.lines) e)
 
 pub not_needlessly_broken : NotNeedlesslyBroken
 unfolding to_go

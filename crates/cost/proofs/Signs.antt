@@ -2,10 +2,12 @@
 use Rattle.std.proofs.Common.{◌≡◌, ℕ, zero, suc, ◌+◌, Bool, true, false, cond, ◌||◌, eqb, List, [], ◌∷◌, ◌++◌, replicate, sym, refl, ◌∙◌, subst, append_assoc, append-nil}
 use Rattle.std.specs.List.{AllByRecursion}
 use Rattle.std.proofs.ByRecursion.{All-weaker}
-use Rattle.doc.specs.Doc.{Doc, nil, text, cat, nest, line, group, fill}
-use Rattle.cost.specs.Layout.{Layout, Mode, Flat, Broken, line_choice, group_choice, filled, empty, layouts, all_layouts}
+use Rattle.doc.specs.Doc.{Doc, nil, text, cat, nest, line, group}
+use Rattle.cost.specs.Layout.{Layout, empty, layouts, all_layouts}
 use Rattle.cost.specs.Laws.{signs, flat_text, SameSigns}
-use Rattle.cost.proofs.Each.{each_through, each_choose}
+use Rattle.cost.specs.declared.price.Mode.{Mode}
+use Rattle.cost.specs.declared.price.Mode.TheVariants.{Flat, Broken}
+use Rattle.cost.proofs.Each.{each_through, each_line, each_group}
 use Rattle.cost.proofs.First.{best_is_first}
 
 signs_append : (t u : List ℕ) → signs (t ++ u) ≡ signs t ++ signs u
@@ -35,9 +37,8 @@ signs_flat w (cat a b) i m s x h =
     simp (← append_assoc) (each_through _ _ _ (λ t. signs_flat w b i m t (x ++ flat_text a)) (layouts w a i m s) (signs_flat w a i m s x h))
 signs_flat w (nest k a) i m s x h = signs_flat w a (k + i) m s x h
 signs_flat w line i m s x h =
-    each_choose _ (line_choice m) _ _ (signs_more s.out x _ _ h refl, tt) (signs_more s.out x (10 ∷ replicate i 32) (32 ∷ []) h (signs_blanks i), tt)
-signs_flat w (group a) i m s x h = each_choose _ (group_choice m) _ _ (signs_flat w a i Flat s x h) (signs_flat w a i Broken s x h)
-signs_flat w (fill a) i m s x h = signs_flat w a i (filled m) s x h
+    each_line _ w i m s (signs_more s.out x _ _ h refl) (signs_more s.out x (10 ∷ replicate i 32) (32 ∷ []) h (signs_blanks i))
+signs_flat w (group a) i m s x h = each_group _ m _ _ (signs_flat w a i Flat s x h) (signs_flat w a i Broken s x h)
 
 -- what holds of each of a list holds of one in it
 every_one : (P : Layout → Type 0) (ss : List Layout) (s : Layout) (ts : List Layout) → AllByRecursion P (ss ++ (s ∷ ts)) → P s

@@ -2,11 +2,13 @@
 use Rattle.std.proofs.Common.{◌≡◌, ℕ, suc, ◌+◌, ◌-◌, ◌≤◌, true, false, length, add_assoc, arith}
 use Rattle.std.proofs.lemmas.Bool.{cond_both}
 use Rattle.std.proofs.lemmas.Bool.Decides.{nat_tests}
-use Rattle.doc.specs.Doc.{Doc, nil, text, cat, nest, line, group, fill}
-use Rattle.cost.specs.Layout.{Layout, Mode, Flat, Broken, Choice, First, Second, Either, line_choice, group_choice, filled}
+use Rattle.doc.specs.Doc.{Doc, nil, text, cat, nest, line, group}
+use Rattle.cost.specs.Layout.{Layout}
 use Rattle.cost.specs.Best.{beyond, wins, first_of}
-use Rattle.cost.specs.ToGo.{stop, then_line, best_choice, to_go}
+use Rattle.cost.specs.ToGo.{stop, line_to_go, group_to_go, to_go}
 use Rattle.cost.specs.Laws.{WiderNoWorse}
+use Rattle.cost.specs.declared.price.Mode.{Mode}
+use Rattle.cost.specs.declared.price.Mode.TheVariants.{Flat, Broken}
 use Rattle.cost.proofs.Choosing.{wins_not_trans}
 use Rattle.cost.proofs.OneLine.{not_less}
 use Rattle.cost.proofs.ToGo.{best_to_go}
@@ -32,14 +34,14 @@ module _ (w v : ℕ) where
       (λ _. cond_both _ _ _ (Worse t) (λ _. q) (λ e. wins_not_trans _ _ _ _ _ _ q e))
       (λ _. cond_both _ _ _ (Worse s) (λ e. wins_not_trans _ _ _ _ _ _ p (wins_not_back _ _ _ _ e)) (λ _. p))
 
-  worse_choice : (ch : Choice) (s t s' t' : Layout) → Worse s s' → Worse t t' → Worse (best_choice w ch s t) (best_choice v ch s' t')
-  worse_choice First s t s' t' p q = p
-  worse_choice Second s t s' t' p q = q
-  worse_choice Either s t s' t' p q = worse_first s t s' t' p q
+  worse_group : (m : Mode) (s t s' t' : Layout) → Worse s s' → Worse t t' → Worse (group_to_go w m s t) (group_to_go v m s' t')
+  worse_group Flat s t s' t' p q = p
+  worse_group Broken s t s' t' p q = worse_first s t s' t' p q
 
   module _ (wider : w ≤ v) where
-    worse_line : (i : ℕ) (k l : ℕ → Layout) → ((c : ℕ) → Worse (k c) (l c)) → (c : ℕ) → Worse (then_line w i k c) (then_line v i l c)
-    worse_line i k l h c = simp add_assoc (wins_not_line (c - w) (c - v) _ _ _ _ (omega arith) (h i))
+    worse_line : (i : ℕ) (m : Mode) (k l : ℕ → Layout) → ((c : ℕ) → Worse (k c) (l c)) → (c : ℕ) → Worse (line_to_go w i m k c) (line_to_go v i m l c)
+    worse_line i Flat k l h c = h (c + 1)
+    worse_line i Broken k l h c = simp add_assoc (wins_not_line (c - w) (c - v) _ _ _ _ (omega arith) (h i))
 
     worse_to_go : (d : Doc) (i : ℕ) (m : Mode) (k l : ℕ → Layout) → ((c : ℕ) → Worse (k c) (l c)) → (c : ℕ) → Worse (to_go w d i m k c) (to_go v d i m l c)
     unfolding to_go
@@ -47,9 +49,8 @@ module _ (w v : ℕ) where
     worse_to_go (text t) i m k l h c = h (c + length t)
     worse_to_go (cat a b) i m k l h c = worse_to_go a i m _ _ (worse_to_go b i m k l h) c
     worse_to_go (nest j a) i m k l h c = worse_to_go a (j + i) m k l h c
-    worse_to_go line i m k l h c = worse_choice (line_choice m) _ _ _ _ (h (c + 1)) (worse_line i k l h c)
-    worse_to_go (group a) i m k l h c = worse_choice (group_choice m) _ _ _ _ (worse_to_go a i Flat k l h c) (worse_to_go a i Broken k l h c)
-    worse_to_go (fill a) i m k l h c = worse_to_go a i (filled m) k l h c
+    worse_to_go line i m k l h c = worse_line i m k l h c
+    worse_to_go (group a) i m k l h c = worse_group m _ _ _ _ (worse_to_go a i Flat k l h c) (worse_to_go a i Broken k l h c)
 
 pub wider_no_worse : WiderNoWorse
 wider_no_worse w v d h =

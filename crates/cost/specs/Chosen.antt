@@ -1,67 +1,55 @@
 -- The decisions that the search notes, and the layout that they make. Assumes nothing: these are definitions.
-use Rattle.std.specs.Prelude.{◌≡◌, ℕ, ◌+◌, Bool, true, false, cond, List, [], ◌∷◌, ◌++◌}
-use Rattle.doc.specs.Doc.{Doc, nil, text, cat, nest, line, group, fill}
-use Rattle.cost.specs.Layout.{Layout, Mode, Flat, Broken, Filled, Choice, First, Second, Either, line_choice, group_choice, filled, empty, with_text, with_line}
-use Rattle.cost.specs.Best.{better, best}
-use Rattle.cost.specs.ToGo.{stop, then_text, then_line, to_go}
-use Rattle.cost.specs.Turns.{note}
-use Rattle.cost.specs.declared.price.Breaks.{Breaks}
-use Rattle.cost.specs.declared.price.Breaks.TheVariants.{All, Each}
+use Rattle.std.specs.Prelude.{◌≡◌, ℕ, zero, suc, ◌+◌, ◌<◌, ◌≤◌, min, Bool, cond, List, [], ◌∷◌, ◌++◌, length}
+use Rattle.doc.specs.Doc.{Doc, nil, text, cat, nest, line, group}
+use Rattle.doc.specs.Nodes.{size}
+use Rattle.cost.specs.Layout.{Layout, empty, with_text, with_line}
+use Rattle.cost.specs.Best.{beyond, best}
+use Rattle.cost.specs.Price.{beats, limit, price}
+use Rattle.cost.specs.ToGo.{stop, to_go}
+use Rattle.cost.specs.declared.price.Mode.{Mode}
+use Rattle.cost.specs.declared.price.Mode.TheVariants.{Flat, Broken}
 
--- of two ways the second is better, by the column
-abbrev pub second_better : (w : ℕ) → (first second : ℕ → Layout) → ℕ → Bool
-second_better w f g c = better w (g c) (f c)
+-- a group is broken where that costs less
+abbrev pub breaks : ℕ → (flat broken : Layout) → Bool
+breaks w flat broken = beats (price w broken) (price w flat)
 
--- a group is broken where that is better, by the column where it begins
-abbrev pub breaks : (w : ℕ) → Doc → ℕ → (ℕ → Layout) → ℕ → Bool
-breaks w a i k = second_better w (to_go w a i Flat k) (to_go w a i Broken k)
+-- f at each number below n
+unfoldable pub below : {A : Type 0} → (ℕ → A) → ℕ → List A
+below f zero = []
+below f (suc n) = below f n ++ (f n ∷ [])
 
--- a line ends where that is better
-abbrev pub line_breaks : (w i : ℕ) → (ℕ → Layout) → ℕ → Bool
-line_breaks w i k = second_better w (then_text (32 ∷ []) k) (then_line w i k)
+-- for each group, the last one first, whether it is broken at each column up to the width
+unfoldable pub notes : ℕ → Doc → ℕ → (ℕ → Layout) → List Bool
+notes w nil i k = []
+notes w (text t) i k = []
+notes w (cat a b) i k = notes w b i k ++ notes w a i (to_go w b i Broken k)
+notes w (nest j a) i k = notes w a (j + i) k
+notes w line i k = []
+notes w (group a) i k = notes w a i k ++ below (λ c. breaks w (to_go w a i Flat k c) (to_go w a i Broken k c)) (suc w)
 
--- a decision is noted where either way may be gone; from the width on it no longer turns
-abbrev pub noted : (w : ℕ) → Choice → (ℕ → Bool) → List ℕ
-noted w First f = []
-noted w Second f = []
-noted w Either f = note f (w + 2)
+-- the mode that a group's parts are laid out in
+abbrev pub decided : Mode → Bool → Mode
+decided Flat b = Flat
+decided Broken b = cond b Broken Flat
 
--- the decisions in a document, the last one first
-unfoldable pub notes : ℕ → Doc → ℕ → Mode → (ℕ → Layout) → List ℕ
-notes w nil i m k = []
-notes w (text t) i m k = []
-notes w (cat a b) i m k = notes w b i m k ++ notes w a i m (to_go w b i m k)
-notes w (nest j a) i m k = notes w a (j + i) m k
-notes w line i m k = noted w (line_choice m) (line_breaks w i k)
-notes w (group a) i m k = notes w a i Broken k ++ noted w (group_choice m) (breaks w a i k)
-notes w (fill a) i m k = notes w a i (filled m) k
+-- a line in a mode
+abbrev pub line_chosen : (w i : ℕ) → Mode → Layout → Layout
+line_chosen w i Flat s = with_text (32 ∷ []) s
+line_chosen w i Broken s = with_line w i s
 
--- the way that is gone: the second where that is decided, if it may be gone
-abbrev pub decide : {A : Type 0} → Choice → Bool → (first second : A) → A
-decide First b x y = x
-decide Second b x y = y
-decide Either b x y = cond b y x
-
--- the layout behind s that these decisions make, with k behind the document
+-- the layout behind s that these decisions make, with k behind the document; past the width all columns are alike
 unfoldable pub chosen : ℕ → Doc → ℕ → Mode → (ℕ → Layout) → Layout → Layout
 chosen w nil i m k s = s
 chosen w (text t) i m k s = with_text t s
 chosen w (cat a b) i m k s = chosen w b i m k (chosen w a i m (to_go w b i m k) s)
 chosen w (nest j a) i m k s = chosen w a (j + i) m k s
-chosen w line i m k s = decide (line_choice m) (line_breaks w i k s.column) (with_text (32 ∷ []) s) (with_line w i s)
-chosen w (group a) i m k s = chosen w a i (decide (group_choice m) (breaks w a i k s.column) Flat Broken) k s
-chosen w (fill a) i m k s = chosen w a i (filled m) k s
+chosen w line i m k s = line_chosen w i m s
+chosen w (group a) i m k s =
+    chosen w a i (decided m (breaks w (to_go w a i Flat k (min s.column w)) (to_go w a i Broken k (min s.column w)))) k s
 
--- the decisions make the best layout
+-- the decisions make the best layout, or both are too long
 abbrev pub ChosenBest : Type 0
-ChosenBest = (w : ℕ) (d : Doc) → chosen w d 0 Broken stop empty ≡ best w d
-
--- how a group's lines break, as a mode
-abbrev pub mode_of : Breaks → Mode
-mode_of All = Broken
-mode_of Each = Filled
-
--- the same, within a flat group or not
-abbrev pub within : (flat : Bool) → Breaks → Mode
-within true b = Flat
-within false b = mode_of b
+ChosenBest =
+    (w : ℕ) (d : Doc) → size d ≤ 65536 →
+    (beyond w (best w d) < limit → chosen w d 0 Broken stop empty ≡ best w d)
+    × (limit ≤ beyond w (best w d) → limit ≤ length (chosen w d 0 Broken stop empty).out)

@@ -1,11 +1,10 @@
 -- What may be relied on, said of all documents and widths. Each is a statement, whose proof a function of `laws` asks for. Assumes nothing.
-use Rattle.std.specs.Prelude.{◌≡◌, ℕ, suc, ◌+◌, ◌≤◌, Bool, true, false, cond, not, ◌&&◌, ◌||◌, List, [], ◌∷◌, ◌++◌, length, ◌==◌, nat_le, nat_lt}
+use Rattle.std.specs.Prelude.{◌≡◌, ℕ, suc, ◌+◌, ◌≤◌, true, false, cond, ◌||◌, List, [], ◌∷◌, ◌++◌, length, ◌==◌, nat_lt}
 use Rattle.std.specs.List.{AllByRecursion}
-use Rattle.doc.specs.Doc.{Doc, nil, text, cat, nest, line, group, fill}
+use Rattle.doc.specs.Doc.{Doc, nil, text, cat, nest, line, group}
 use Rattle.doc.specs.Laws.{plain}
 use Rattle.cost.specs.Layout.{Layout, all_layouts}
 use Rattle.cost.specs.Best.{beyond, wins, better, best}
-use Rattle.cost.specs.ToGo.{stop, then_text, then_line}
 
 -- no layout is better than the best; it is one of the layouts, and it is better than each before it
 pub record FirstBest (w : ℕ) (d : Doc) : Type 0 where
@@ -52,15 +51,10 @@ flat_text (cat a b) = flat_text a ++ flat_text b
 flat_text (nest k a) = flat_text a
 flat_text line = 32 ∷ []
 flat_text (group a) = flat_text a
-flat_text (fill a) = flat_text a
 
--- the best layout of a document is d on one line
-abbrev pub OnOne : (w : ℕ) (whole d : Doc) → Type 0
-OnOne w whole d = ((best w whole).out ≡ flat_text d) × ((best w whole).lines ≡ 0)
-
--- a document that is one group, filled or not, and fits on one line, is set on one
+-- a document that is one group, and fits on one line, is set on one
 abbrev pub FitsOnOne : Type 0
-FitsOnOne = (w : ℕ) (d : Doc) → length (flat_text d) ≤ w → OnOne w (group d) d × OnOne w (fill d) d
+FitsOnOne = (w : ℕ) (d : Doc) → length (flat_text d) ≤ w → ((best w (group d)).out ≡ flat_text d) × ((best w (group d)).lines ≡ 0)
 
 -- a wider line is never worse
 abbrev pub WiderNoWorse : Type 0
@@ -82,19 +76,3 @@ abbrev pub NotNeedlesslyBroken : Type 0
 NotNeedlesslyBroken =
     (w : ℕ) (t u : List ℕ) (g d : Doc) → length t + length (flat_text g) + length u ≤ w →
     (rest : List ℕ) × ((best w (cat (text t) (cat (group g) (cat (text u) (cat line d))))).out ≡ t ++ (flat_text g ++ (u ++ (10 ∷ rest))))
-
--- words with a line between each two, the first one by itself
-unfoldable pub words : List ℕ → List (List ℕ) → Doc
-words t [] = text t
-words t (u ∷ us) = cat (text t) (cat line (words u us))
-
--- the simple way to set words from a column on: each behind a blank if it still goes on the line, and on a new line if not
-unfoldable pub put_words : ℕ → List (List ℕ) → ℕ → Layout
-put_words w [] c = stop c
-put_words w (t ∷ ts) c = cond (nat_le (c + suc (length t)) w) (then_text (32 ∷ t) (put_words w ts) c) (then_line w 0 (then_text t (put_words w ts)) c)
-
--- a document that is one filled group of words, none longer than the width, is set the simple way, with nothing beyond the width
-abbrev pub WordsFilled : Type 0
-WordsFilled =
-    (w : ℕ) (t : List ℕ) (ts : List (List ℕ)) → length t ≤ w → AllByRecursion (λ u. length u ≤ w) ts →
-    (best w (fill (words t ts)) ≡ then_text t (put_words w ts) 0) × (beyond w (best w (fill (words t ts))) ≡ 0)

@@ -6,5 +6,3 @@ pub mod Row
 pub mod ToGo
 pub mod Chosen
 pub mod Laws
-pub mod Turns
-pub mod Pieces

@@ -1,8 +1,10 @@
 -- The best layout of what is left of a document, by the column where it begins. Assumes nothing: these are definitions.
 use Rattle.std.specs.Prelude.{◌≡◌, ℕ, suc, ◌+◌, ◌-◌, List, [], ◌∷◌, ◌++◌, length, replicate}
-use Rattle.doc.specs.Doc.{Doc, nil, text, cat, nest, line, group, fill}
-use Rattle.cost.specs.Layout.{Layout, Mode, Flat, Broken, Filled, Choice, First, Second, Either, line_choice, group_choice, filled, empty}
+use Rattle.doc.specs.Doc.{Doc, nil, text, cat, nest, line, group}
+use Rattle.cost.specs.Layout.{Layout}
 use Rattle.cost.specs.Best.{best, first_of}
+use Rattle.cost.specs.declared.price.Mode.{Mode}
+use Rattle.cost.specs.declared.price.Mode.TheVariants.{Flat, Broken}
 
 -- at the end of a document nothing is left
 abbrev pub stop : ℕ → Layout
@@ -17,11 +19,15 @@ then_text t k c =
 abbrev pub then_line : (w i : ℕ) → (ℕ → Layout) → ℕ → Layout
 then_line w i k c = record { out = 10 ∷ (replicate i 32 ++ (k i).out); column = (k i).column; over = (c - w) + (k i).over; lines = suc (k i).lines }
 
--- of the best of both ways the better, as far as they may be gone, and of equals the first
-abbrev pub best_choice : ℕ → Choice → (first second : Layout) → Layout
-best_choice w First s t = s
-best_choice w Second s t = t
-best_choice w Either s t = first_of w s t
+-- a line in a mode, and then the rest
+abbrev pub line_to_go : (w i : ℕ) → Mode → (ℕ → Layout) → ℕ → Layout
+line_to_go w i Flat k c = then_text (32 ∷ []) k c
+line_to_go w i Broken k c = then_line w i k c
+
+-- a group in a mode, from the best of its flat layouts and of its broken ones
+abbrev pub group_to_go : ℕ → Mode → (flat broken : Layout) → Layout
+group_to_go w Flat flat broken = flat
+group_to_go w Broken flat broken = first_of w flat broken
 
 -- the best of a document at an indentation, in a mode, with k behind it, from a column on
 unfoldable pub to_go : ℕ → Doc → ℕ → Mode → (ℕ → Layout) → ℕ → Layout
@@ -29,9 +35,8 @@ to_go w nil i m k c = k c
 to_go w (text t) i m k c = then_text t k c
 to_go w (cat a b) i m k c = to_go w a i m (to_go w b i m k) c
 to_go w (nest j a) i m k c = to_go w a (j + i) m k c
-to_go w line i m k c = best_choice w (line_choice m) (then_text (32 ∷ []) k c) (then_line w i k c)
-to_go w (group a) i m k c = best_choice w (group_choice m) (to_go w a i Flat k c) (to_go w a i Broken k c)
-to_go w (fill a) i m k c = to_go w a i (filled m) k c
+to_go w line i m k c = line_to_go w i m k c
+to_go w (group a) i m k c = group_to_go w m (to_go w a i Flat k c) (to_go w a i Broken k c)
 
 -- what was laid out, and the rest behind it
 abbrev pub extend : Layout → Layout → Layout

@@ -1,7 +1,6 @@
 -- Worked examples: the best layouts of two documents. Assumes nothing.
 use Rattle.std.specs.Prelude.{◌≡◌, ℕ, List, [], ◌∷◌, ◌++◌, codes}
 use Rattle.doc.specs.Doc.{Doc, nil, text, cat, nest, line, group}
-use Rattle.cost.specs.Layout.{Layout}
 use Rattle.cost.specs.Best.{beyond, best}
 
 -- documents behind each other

@@ -1,6 +1,6 @@
 // Theorems about the definitions, each the contract of a function, so that the check asks for its proof.
 ghost use Rattle.cost.specs.Chosen.{ChosenBest};
-ghost use Rattle.cost.specs.Laws.{BestIsFirst, BracketsAlike, CountedRight, FitsOnOne, NotNeedlesslyBroken, SameSigns, WiderNoWorse, WordsFilled};
+ghost use Rattle.cost.specs.Laws.{BestIsFirst, BracketsAlike, CountedRight, FitsOnOne, NotNeedlesslyBroken, SameSigns, WiderNoWorse};
 ghost use Rattle.cost.specs.ToGo.{BestToGo};
 ghost use Rattle.cost.specs.Worked.{WorkedLayouts};
 
@@ -53,7 +53,7 @@ pub fn brackets_alike() -> u8
     0
 }
 
-// A document that is one group, filled or not, and fits on one line, is set on one.
+// A document that is one group, and fits on one line, is set on one.
 pub fn fits_on_one() -> u8
     ensures { FitsOnOne }
 {
@@ -70,13 +70,6 @@ pub fn wider_no_worse() -> u8
 // A text, a group and a text before a line in no group are set on one line if they fit there, whatever comes behind.
 pub fn not_needlessly_broken() -> u8
     ensures { NotNeedlesslyBroken }
-{
-    0
-}
-
-// Words in one filled group are set the simple way: each on the line if it still goes there, and on a new one if not.
-pub fn words_filled() -> u8
-    ensures { WordsFilled }
 {
     0
 }

@@ -2,8 +2,5 @@
 #![tactic(auto)]
 
 pub mod laws;
-pub mod merging;
 pub mod price;
-pub mod reading;
 pub mod row;
-pub mod step;

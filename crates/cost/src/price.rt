@@ -1,18 +1,21 @@
-// A layout's cost, by value, and how a group's lines break.
-ghost use Rattle.std.specs.Prelude.{◌≡◌, ◌+◌, ◌^◌, ◌<◌};
-ghost use Rattle.cost.specs.Price.{beats, line_more};
+// A layout's cost, by value, and the modes that a part of a document can be laid out in.
+ghost use Rattle.std.specs.Prelude.{◌≡◌};
+ghost use Rattle.cost.specs.Price.{beats, capped, further, line_more};
 
-// How the lines of a group end that is not flat: all of them, or, in a filled group, each for itself.
+// More bytes beyond the width than the longest layout that is not refused has bytes.
+pub const LIMIT: u32 = 131_073;
+
+// How a line is laid out: as a blank, or as the end of a line.
 #[derive(Clone, Copy)]
-pub enum Breaks {
-    All,
-    Each,
+pub enum Mode {
+    Flat,
+    Broken,
 }
 
 // Bytes beyond the width, and lines ended.
 #[derive(Clone, Copy)]
 pub struct Cost {
-    pub beyond: u64,
+    pub beyond: u32,
     pub lines: u32,
 }
 
@@ -24,14 +27,34 @@ impl Cost {
         self.beyond < other.beyond || self.beyond == other.beyond && self.lines < other.lines
     }
 
+    // The cost of so many bytes beyond the width and so many lines; from the limit on, costs are not told apart.
+    fn capped(beyond: usize, lines: u32) -> Cost
+        ensures { result ≡ capped beyond lines }
+    {
+        if beyond < LIMIT as usize {
+            Cost {
+                beyond: beyond as u32,
+                lines,
+            }
+        } else {
+            Cost {
+                beyond: LIMIT,
+                lines: 0,
+            }
+        }
+    }
+
+    // The cost with n bytes more beyond the width.
+    pub fn further(self, n: usize) -> Cost
+        ensures { result ≡ further self n }
+    {
+        Cost::capped((self.beyond as usize).saturating_add(n), self.lines)
+    }
+
     // The cost with one line more.
     pub fn line_more(self) -> Cost
-        requires { self.lines + 1 < 2 ^ 32 }
         ensures { result ≡ line_more self }
     {
-        Cost {
-            beyond: self.beyond,
-            lines: self.lines + 1,
-        }
+        Cost::capped(self.beyond as usize, self.lines.saturating_add(1))
     }
 }

@@ -1,18 +1,49 @@
-// Rows of steps: what the rest of a document costs, by the column where it begins.
-use crate::price::Cost;
-use crate::step::Step;
+// Rows of costs: what the rest of a document costs, by the column where it begins.
+ghost use Rattle.std.specs.Prelude.{◌≡◌, ◌+◌, ◌^◌, ◌<◌, ◌≤◌, ◌++◌, length, replicate, vec_len, vec_capacity};
+ghost use Rattle.cost.specs.Chosen.{below};
+ghost use Rattle.cost.specs.Price.{beats, cheaper};
+ghost use Rattle.cost.specs.Row.{along};
 
-// A row that is read so much further on.
-#[derive(Clone, Copy)]
-pub struct Shifted<'a> {
-    pub steps: &'a [Step],
-    pub by: usize,
+use crate::price::Cost;
+
+// The cost at a column; past the row's end each column is one byte more beyond the width.
+pub fn along(row: &[Cost], column: usize) -> Cost
+    requires { 0 < length row.now }
+    ensures { result ≡ along row.now column }
+{
+    let last = row.len() - 1;
+    if column <= last {
+        row[column]
+    } else {
+        row[last].further(column - last)
+    }
 }
 
-// The cheaper of two rows from a column on, and whether it is the broken one, up to where that is sure.
-#[derive(Clone, Copy)]
-pub struct Piece {
-    pub step: Step,
-    pub breaks: bool,
-    pub end: Option<usize>,
+// Every column costs the same.
+pub fn collapse(row: &mut [Cost], cost: Cost)
+    ensures { row.new ≡ replicate (length row.old) cost }
+{
+    for at in row.iter_mut() {
+        *at = cost;
+    }
+}
+
+// At each column the cheaper of two costs, the flat one where they are alike, with a note whether it is the broken one.
+pub fn merge(broken: &mut [Cost], shift: usize, flat: &[Cost], reach: usize, notes: &mut Vec<bool>)
+    requires some { 0 < length broken.old }
+    requires few { length broken.old ≤ 256 }
+    requires alike { length flat.now ≡ length broken.old }
+    requires room { vec_len notes.old + length broken.old ≤ vec_capacity notes.old }
+    requires near { (shift ≤ 2 ^ 32) × (reach ≤ 2 ^ 32) }
+    ensures row { broken.new ≡ below (λ c. cheaper (along flat.now (c + reach)) (along broken.old (c + shift))) (length broken.old) }
+    ensures notes { notes.new.items ≡ notes.old.items ++ below (λ c. beats (along broken.old (c + shift)) (along flat.now (c + reach))) (length broken.old) }
+    ensures capacity { vec_capacity notes.new ≡ vec_capacity notes.old }
+{
+    for c in 0..broken.len() {
+        let whole = along(flat, c + reach);
+        let parted = along(broken, c + shift);
+        let better = parted.beats(whole);
+        notes.push_reserved(better);
+        broken[c] = if better { parted } else { whole };
+    }
 }

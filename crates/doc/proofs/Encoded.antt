@@ -3,7 +3,7 @@ use Rattle.std.proofs.Common.{◌≡◌, ℕ, zero, suc, ◌≤◌, true, cond, 
 use Rattle.std.proofs.lemmas.List.{take-append-drop, length-take-le, take_at, drop_at}
 use Rattle.std.proofs.lemmas.Bool.{and_parts, and_from, leb-true, le-leb, eqb-true, cond-true, cond_both}
 use Rattle.std.proofs.lemmas.Bool.Decides.{nat_tests}
-use Rattle.doc.specs.Doc.{Doc, nil, text, cat, nest, line, group, fill}
+use Rattle.doc.specs.Doc.{Doc, nil, text, cat, nest, line, group}
 use Rattle.doc.specs.Encoding.{Parse, doc, no_doc, read_byte, read_text, then_read, reads, whole, decode}
 use Rattle.doc.specs.Laws.{plain, bytes, encodable, encode, ReadsPlain, EncodedOnce, Encoded}
 
@@ -49,8 +49,7 @@ right (suc n) (c ∷ cs) =
     (λ b es q f. (and_from _ _ p q, ap (λ bs. 2 ∷ bs) (e ∙ ap (λ bs. encode a ++ bs) f ∙ sym (append_assoc (encode a) (encode b) es))))))
     (right_if c 3 cs _ _ (right_byte 3 cs _ (λ k ds. right_then _ ds _ _ (right n ds) (λ a es p e. (p, ap (λ bs. 3 ∷ k ∷ bs) e))))
     (right_if c 4 cs _ _ (refl, refl)
-    (right_if c 5 cs _ _ (right_then _ cs _ _ (right n cs) (λ a ds p e. (p, ap (λ bs. 5 ∷ bs) e)))
-    (right_if c 6 cs _ _ (right_then _ cs _ _ (right n cs) (λ a ds p e. (p, ap (λ bs. 6 ∷ bs) e))) tt))))))
+    (right_if c 5 cs _ _ (right_then _ cs _ _ (right n cs) (λ a ds p e. (p, ap (λ bs. 5 ∷ bs) e))) tt)))))
 
 right_whole : (bs : List ℕ) (p : Parse) (d : Doc) → Right bs p → whole p ≡ Some d → (plain d ≡ true) × (bs ≡ encode d)
 right_whole bs no_doc d h e = let z : ◌≡◌ {A = ℕ} 0 1 = cc in absurd (omega arith)
@@ -97,7 +96,6 @@ read_back (cat a b) rest e =
 read_back (nest k a) rest e = by_tag 3 (k ∷ encode a) _ _ (λ m l. rw (read_back a rest (and_parts (leb k 255) (encodable a) e).1 m (omega arith)))
 read_back line rest e = by_tag 4 [] rest _ (λ m l. refl)
 read_back (group a) rest e = by_tag 5 (encode a) _ _ (λ m l. rw (read_back a rest e m l))
-read_back (fill a) rest e = by_tag 6 (encode a) _ _ (λ m l. rw (read_back a rest e m l))
 
 bytes_append : (xs ys : List ℕ) → bytes xs ≡ true → bytes ys ≡ true → bytes (xs ++ ys) ≡ true
 bytes_append [] ys h k = k
@@ -111,7 +109,6 @@ encode_bytes (cat a b) e = let p = and_parts _ _ e in bytes_append (encode a) (e
 encode_bytes (nest k a) e = let p = and_parts _ _ e in and_from _ _ p.0 (encode_bytes a p.1)
 encode_bytes line e = refl
 encode_bytes (group a) e = encode_bytes a e
-encode_bytes (fill a) e = encode_bytes a e
 
 pub encoded : Encoded
 unfolding decode

@@ -1,13 +1,13 @@
 -- Each way of reading a document, from what stands at its first byte. Assumes nothing.
-use Rattle.std.proofs.Common.{◌≡◌, ℕ, zero, suc, ◌+◌, ◌<◌, ◌≤◌, true, false, not, ◌&&◌, eqb, leb, ◌⊎◌, List, [], ◌∷◌, ◌++◌, length, get_or, take, drop, set, Some, None, sym, refl, ap, ◌∙◌, subst, ⊎_elim, append_assoc, add_assoc, arith, length-append, length-drop}
+use Rattle.std.proofs.Common.{◌≡◌, ℕ, zero, suc, ◌+◌, ◌<◌, ◌≤◌, false, List, [], ◌∷◌, ◌++◌, length, get_or, take, drop, None, sym, refl, ap, ◌∙◌, subst, append_assoc, arith, length-append, length-drop}
 use Rattle.std.proofs.lemmas.List.{drop_all, drop_more, drop-drop, set_at, get_or_at, length-take-le}
 use Rattle.std.proofs.lemmas.Bool.{cond-false, cond-true, and_from, le-leb, lt-leb, not_from_false, ne_eqb}
-use Rattle.doc.specs.Doc.{Doc, nil, text, cat, nest, line, group, fill}
-use Rattle.doc.specs.Encoding.{Parse, doc, no_doc, has_newline, read_byte, read_text, then_read, reads, whole, decode}
+use Rattle.doc.specs.Doc.{Doc, nil, text, cat, nest, line, group}
+use Rattle.doc.specs.Encoding.{Parse, doc, no_doc, has_newline, read_byte, read_text, then_read, reads, decode}
 use Rattle.doc.specs.Nodes.{size, spells, laid, node, Spelled, RowOf}
-use Rattle.doc.specs.Reading.{Headed, NotRead, ReadOn, closed, no_node}
+use Rattle.doc.specs.Reading.{NotRead, ReadOn, closed, no_node}
 use Rattle.doc.specs.declared.node.Kind.{Kind}
-use Rattle.doc.specs.declared.node.Kind.TheVariants.{Nil, Text, Cat, Nest, Line, Group, Fill}
+use Rattle.doc.specs.declared.node.Kind.TheVariants.{Nil, Text, Cat, Nest, Line, Group}
 use Rattle.doc.specs.declared.node.Node.{Node}
 use Rattle.doc.proofs.Sizes.{length_laid, size_spells, some_node}
 
@@ -29,10 +29,10 @@ module _ (s : List ℕ) (at c : ℕ) (h : at < length s) (is : get_or s at 0 ≡
   by_tag r f zero l = absurd (omega arith)
   by_tag r f (suc m) l = rw (drop_more s at 0 h) (rw is (f m (omega arith)))
 
-  -- no document begins with a byte above 6
-  pub no_tag : (c ≡ 0 → ⊥) → (c ≡ 1 → ⊥) → (c ≡ 2 → ⊥) → (c ≡ 3 → ⊥) → (c ≡ 4 → ⊥) → (c ≡ 5 → ⊥) → (c ≡ 6 → ⊥) → NotRead s at
+  -- no document begins with a byte above 5
+  pub no_tag : (c ≡ 0 → ⊥) → (c ≡ 1 → ⊥) → (c ≡ 2 → ⊥) → (c ≡ 3 → ⊥) → (c ≡ 4 → ⊥) → (c ≡ 5 → ⊥) → NotRead s at
   unfolding reads
-  no_tag e0 e1 e2 e3 e4 e5 e6 =
+  no_tag e0 e1 e2 e3 e4 e5 =
       by_tag no_doc
       (λ m _.
       cond-false _ _ _ (ne_eqb c 0 e0)
@@ -40,8 +40,7 @@ module _ (s : List ℕ) (at c : ℕ) (h : at < length s) (is : get_or s at 0 ≡
       ∙ cond-false _ _ _ (ne_eqb c 2 e2)
       ∙ cond-false _ _ _ (ne_eqb c 3 e3)
       ∙ cond-false _ _ _ (ne_eqb c 4 e4)
-      ∙ cond-false _ _ _ (ne_eqb c 5 e5)
-      ∙ cond-false _ _ _ (ne_eqb c 6 e6))
+      ∙ cond-false _ _ _ (ne_eqb c 5 e5))
 
 module _ (s : List ℕ) (at : ℕ) (h : at < length s) where
   pub nil_read : get_or s at 0 ≡ 0 → (old new : List Node) → new ≡ old ++ node Nil (length old + 1) ∷ [] → ReadOn s at old new (at + 1)
@@ -173,101 +172,6 @@ module _ (s : List ℕ) (at : ℕ) (h : at < length s) where
   pub not_grouped : get_or s at 0 ≡ 5 → NotRead s (at + 1) → NotRead s at
   unfolding reads
   not_grouped is f = by_tag s at 5 h is no_doc (λ m l. rw (f m l))
-
-  -- a document stands there, filled
-  pub fill_read : get_or s at 0 ≡ 6 → (old opened new exit : List Node) (next place : ℕ) → place ≡ length old → opened ≡ old ++ node Fill (length old + 1) ∷ [] → ReadOn s (at + 1) opened new next → exit ≡ closed new place → ReadOn s at old exit next
-  unfolding reads spells laid Spelled size
-  fill_read is old opened new exit next place p o ra x-is =
-      record {
-        what = fill ra.what;
-        ends = omega (arith, ra.ends);
-        within = ra.within;
-        parsed = by_tag s at 6 h is _ (λ m l. rw (ra.parsed m l));
-        row_is = row_of_part Fill ra.what (at + 1) old opened new exit place p o ra.row_is x-is;
-        spelled = ra.spelled;
-      }
-
-  pub not_filled : get_or s at 0 ≡ 6 → NotRead s (at + 1) → NotRead s at
-  unfolding reads
-  not_filled is f = by_tag s at 6 h is no_doc (λ m l. rw (f m l))
-
-  -- a node without parts
-  abbrev pub Leaf : Kind → Type 0
-  Leaf k = (k ≡ Nil) ⊎ (((x : ℕ) × (y : ℕ) × (k ≡ Text x y)) ⊎ (k ≡ Line))
-
-  -- a node with one part
-  abbrev pub OnePart : Kind → Type 0
-  OnePart k = ((x : ℕ) × (k ≡ Nest x)) ⊎ ((k ≡ Group) ⊎ (k ≡ Fill))
-
-  module _ (k : Kind) (next : ℕ) (head : Headed s at k next) where
-    headed_as : (j : Kind) → k ≡ j → Headed s at j next
-    headed_as j e = subst (λ x. Headed s at x next) e head
-
-    pub leaf_read : Leaf k → (old new : List Node) → new ≡ old ++ node k (length old + 1) ∷ [] → ReadOn s at old new next
-    leaf_read leaf old new e =
-        ⊎_elim
-        (λ is. let q = headed_as Nil is in subst (ReadOn s at old new) (sym q.1) (nil_read q.0 old new (added Nil is)))
-        (λ rest.
-        ⊎_elim
-        (λ x.
-        let q = headed_as (Text x.0 x.1) x.2 in
-        subst (ReadOn s at old new) (sym q.1)
-        (text_read q.0 x.1 q.3 q.4 q.5 q.6 q.7 old new (added (Text x.0 x.1) x.2 ∙ ap (λ z. old ++ node (Text z x.1) (length old + 1) ∷ []) q.2)))
-        (λ is. let q = headed_as Line is in subst (ReadOn s at old new) (sym q.1) (line_read q.0 old new (added Line is)))
-        rest)
-        leaf
-      where
-        added : (j : Kind) → k ≡ j → new ≡ old ++ node j (length old + 1) ∷ []
-        added j is = e ∙ ap (λ z. old ++ node z (length old + 1) ∷ []) is
-
-    pub part_read : OnePart k → (old opened new exit : List Node) (end place : ℕ) → place ≡ length old → opened ≡ old ++ node k (length old + 1) ∷ [] → ReadOn s next opened new end → exit ≡ closed new place → ReadOn s at old exit end
-    part_read part old opened new exit end place p o ra x-is =
-        ⊎_elim
-        (λ x. let q = headed_as (Nest x.0) x.1 in nest_read q.0 x.0 q.2 q.3 q.4 old opened new exit end place p (opens (Nest x.0) x.1) (subst (λ z. ReadOn s z opened new end) q.1 ra) x-is)
-        (λ rest.
-        ⊎_elim
-        (λ is. let q = headed_as Group is in group_read q.0 old opened new exit end place p (opens Group is) (subst (λ z. ReadOn s z opened new end) q.1 ra) x-is)
-        (λ is. let q = headed_as Fill is in fill_read q.0 old opened new exit end place p (opens Fill is) (subst (λ z. ReadOn s z opened new end) q.1 ra) x-is)
-        rest)
-        part
-      where
-        opens : (j : Kind) → k ≡ j → opened ≡ old ++ node j (length old + 1) ∷ []
-        opens j is = o ∙ ap (λ z. old ++ node z (length old + 1) ∷ []) is
-
-    pub not_part : OnePart k → NotRead s next → NotRead s at
-    not_part part f =
-        ⊎_elim
-        (λ x. let q = headed_as (Nest x.0) x.1 in not_nested q.0 q.2 (subst (NotRead s) q.1 f))
-        (λ rest.
-        ⊎_elim
-        (λ is. let q = headed_as Group is in not_grouped q.0 (subst (NotRead s) q.1 f))
-        (λ is. let q = headed_as Fill is in not_filled q.0 (subst (NotRead s) q.1 f))
-        rest)
-        part
-
-    pub both_read : k ≡ Cat → (old opened rest new exit : List Node) (middle end place : ℕ) → place ≡ length old → opened ≡ old ++ node k (length old + 1) ∷ [] → ReadOn s next opened rest middle → ReadOn s middle rest new end → exit ≡ closed new place → ReadOn s at old exit end
-    both_read is old opened rest new exit middle end place p o ra rb x-is =
-        let q = headed_as Cat is in
-        cat_read q.0 old opened rest new exit middle end place p (o ∙ ap (λ z. old ++ node z (length old + 1) ∷ []) is) (subst (λ z. ReadOn s z opened rest middle) q.1 ra) rb x-is
-
-    pub not_before : k ≡ Cat → NotRead s next → NotRead s at
-    not_before is f = let q = headed_as Cat is in not_first q.0 (subst (NotRead s) q.1 f)
-
-    pub not_behind : k ≡ Cat → (old rest : List Node) (middle : ℕ) → ReadOn s next old rest middle → NotRead s middle → NotRead s at
-    not_behind is old rest middle ra f = let q = headed_as Cat is in not_second q.0 old rest middle (subst (λ z. ReadOn s z old rest middle) q.1 ra) f
-
-    -- what is in a node begins behind it
-    pub head_after : at < next
-    head_after = go k head
-      where
-        go : (k : Kind) → Headed s at k next → at < next
-        go Nil q = omega (arith, q.1)
-        go (Text x y) q = omega (arith, q.1)
-        go Cat q = omega (arith, q.1)
-        go (Nest x) q = omega (arith, q.1)
-        go Line q = omega (arith, q.1)
-        go Group q = omega (arith, q.1)
-        go Fill q = omega (arith, q.1)
 
 -- a row of no more nodes than bytes were read stays so, and grows
 pub read_fits : (s : List ℕ) (at : ℕ) (old new : List Node) (next : ℕ) → ReadOn s at old new next → length old ≤ at → (length new ≤ next) × (length old < length new) × (at < next)

@@ -1,12 +1,12 @@
 -- What stands at an index tells the shape of the document that stands there. Assumes nothing.
-use Rattle.std.proofs.Common.{◌≡◌, ℕ, suc, ◌+◌, ◌<◌, ◌≤◌, List, [], ◌∷◌, ◌++◌, length, get_or, sym, refl, ap, ◌∙◌, subst, append_assoc, arith, length-append}
+use Rattle.std.proofs.Common.{◌≡◌, ℕ, ◌+◌, ◌<◌, List, [], ◌∷◌, ◌++◌, length, get_or, sym, refl, ap, ◌∙◌, subst, append_assoc, arith, length-append}
 use Rattle.std.proofs.lemmas.List.{get_or_at}
-use Rattle.doc.specs.Doc.{Doc, nil, text, cat, nest, line, group, fill}
+use Rattle.doc.specs.Doc.{Doc, nil, text, cat, nest, line, group}
 use Rattle.doc.specs.Nodes.{size, spells, laid, node, Spelled}
 use Rattle.doc.specs.Reading.{no_node}
 use Rattle.doc.specs.Standing.{Is, Stands}
 use Rattle.doc.specs.declared.node.Kind.{Kind}
-use Rattle.doc.specs.declared.node.Kind.TheVariants.{Nil, Text, Cat, Nest, Line, Group, Fill}
+use Rattle.doc.specs.declared.node.Kind.TheVariants.{Nil, Text, Cat, Nest, Line, Group}
 use Rattle.doc.specs.declared.node.Node.{Node}
 use Rattle.doc.proofs.Sizes.{length_laid}
 
@@ -48,12 +48,6 @@ laid_stands s (group a) p x ns before after is e sp =
       is_at ns before n (la ++ after) x is e,
       laid_stands s a (p + 1) (x + 1) ns (before ++ n ∷ []) after (is ∙ regroup before [] (la ++ after) n) (behind before [] n x 0 e refl ∙ omega arith) sp,
     )
-laid_stands s (fill a) p x ns before after is e sp =
-    let n = node Fill (x + size (fill a)) in
-    let la = laid a (p + 1) (x + 1) in (
-      is_at ns before n (la ++ after) x is e,
-      laid_stands s a (p + 1) (x + 1) ns (before ++ n ∷ []) after (is ∙ regroup before [] (la ++ after) n) (behind before [] n x 0 e refl ∙ omega arith) sp,
-    )
 
 -- the node of a document, and where it ends
 abbrev kind_of : Doc → ℕ → Kind
@@ -63,7 +57,6 @@ kind_of (cat a b) p = Cat
 kind_of (nest k a) p = Nest k
 kind_of line p = Line
 kind_of (group a) p = Group
-kind_of (fill a) p = Fill
 
 pub stands_is : (ns : List Node) (d : Doc) (p x : ℕ) → Stands ns d p x → Is ns x (kind_of d p) (x + size d)
 unfolding Stands size
@@ -73,7 +66,6 @@ stands_is ns (cat a b) p x h = h.0
 stands_is ns (nest k a) p x h = h.0
 stands_is ns line p x h = h
 stands_is ns (group a) p x h = h.0
-stands_is ns (fill a) p x h = h.0
 
 -- the document is what the kind of its node says
 abbrev pub Shape : Kind → Doc → ℕ → Type 0
@@ -83,7 +75,6 @@ Shape Cat d p = (a : Doc) × (b : Doc) × (d ≡ cat a b)
 Shape (Nest k) d p = (a : Doc) × (d ≡ nest k a)
 Shape Line d p = d ≡ line
 Shape Group d p = (a : Doc) × (d ≡ group a)
-Shape Fill d p = (a : Doc) × (d ≡ fill a)
 
 own_shape : (d : Doc) (p : ℕ) → Shape (kind_of d p) d p
 own_shape nil p = refl
@@ -92,7 +83,6 @@ own_shape (cat a b) p = (a, b, refl)
 own_shape (nest k a) p = (a, refl)
 own_shape line p = refl
 own_shape (group a) p = (a, refl)
-own_shape (fill a) p = (a, refl)
 
 pub shape : (ns : List Node) (d : Doc) (p x : ℕ) (k : Kind) → Stands ns d p x → (get_or ns x no_node).kind ≡ k → Shape k d p
 shape ns d p x k h e = subst (λ j. Shape j d p) (sym (ap (λ n. n.kind) (stands_is ns d p x h).1) ∙ e) (own_shape d p)

@@ -1,6 +1,6 @@
 -- How many nodes and bytes a document has. Assumes nothing.
-use Rattle.std.proofs.Common.{◌≡◌, ℕ, suc, ◌+◌, ◌<◌, ◌≤◌, List, [], ◌∷◌, ◌++◌, length, sym, refl, ap, ◌∙◌, arith, length-append}
-use Rattle.doc.specs.Doc.{Doc, nil, text, cat, nest, line, group, fill}
+use Rattle.std.proofs.Common.{◌≡◌, ℕ, suc, ◌+◌, ◌<◌, ◌≤◌, length, refl, ap, ◌∙◌, arith, length-append}
+use Rattle.doc.specs.Doc.{Doc, nil, text, cat, nest, line, group}
 use Rattle.doc.specs.Nodes.{size, spells, laid}
 
 pub length_laid : (d : Doc) (p x : ℕ) → length (laid d p x) ≡ size d
@@ -12,7 +12,6 @@ length_laid (cat a b) p x =
 length_laid (nest k a) p x = ap suc (length_laid a (p + 2) (x + 1))
 length_laid line p x = refl
 length_laid (group a) p x = ap suc (length_laid a (p + 1) (x + 1))
-length_laid (fill a) p x = ap suc (length_laid a (p + 1) (x + 1))
 
 -- each node takes a byte at least
 pub size_spells : (d : Doc) → size d ≤ spells d
@@ -23,7 +22,6 @@ size_spells (cat a b) = omega (arith, size_spells a, size_spells b)
 size_spells (nest k a) = omega (arith, size_spells a)
 size_spells line = omega arith
 size_spells (group a) = omega (arith, size_spells a)
-size_spells (fill a) = omega (arith, size_spells a)
 
 pub some_node : (d : Doc) → 0 < size d
 unfolding size
@@ -33,4 +31,3 @@ some_node (cat a b) = omega arith
 some_node (nest k a) = omega arith
 some_node line = omega arith
 some_node (group a) = omega arith
-some_node (fill a) = omega arith

@@ -1,8 +1,8 @@
 -- What is read where a text should stand. Assumes nothing.
-use Rattle.std.proofs.Common.{◌≡◌, ℕ, ◌+◌, ◌<◌, ◌≤◌, true, false, not, ◌&&◌, leb, List, length, get_or, take, drop, sym, refl, ap, ◌∙◌, arith, length-drop}
+use Rattle.std.proofs.Common.{◌≡◌, ℕ, ◌+◌, ◌<◌, ◌≤◌, true, List, length, get_or, take, drop, arith, length-drop}
 use Rattle.std.proofs.lemmas.List.{drop_all, drop_more}
 use Rattle.std.proofs.lemmas.Bool.{cond-false, and_left, and_right, lt-leb, not_from_true}
-use Rattle.doc.specs.Encoding.{Parse, no_doc, has_newline, read_byte, read_text}
+use Rattle.doc.specs.Encoding.{no_doc, has_newline, read_byte, read_text}
 
 module _ (s : List ℕ) (at : ℕ) where
   pub no_length : length s ≤ at → read_byte (drop at s) read_text ≡ no_doc

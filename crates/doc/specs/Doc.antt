@@ -1,7 +1,7 @@
 -- Documents. Assumes nothing: these are definitions.
 use Rattle.std.specs.Prelude.{ℕ, List}
 
--- nothing; text, by its bytes; one document and another behind it; one nested by k; a line; a group around one; a filled group around one
+-- nothing; text, by its bytes; one document and another behind it; one nested by k; a line; a group around one
 pub data Doc : Type 0 where
   nil : Doc
   text : List ℕ → Doc
@@ -9,4 +9,3 @@ pub data Doc : Type 0 where
   nest : ℕ → Doc → Doc
   line : Doc
   group : Doc → Doc
-  fill : Doc → Doc

@@ -1,6 +1,6 @@
 -- How documents are encoded in bytes. Assumes nothing: these are definitions.
 use Rattle.std.specs.Prelude.{ℕ, zero, suc, Bool, false, cond, not, ◌&&◌, ◌||◌, List, [], ◌∷◌, length, take, drop, Some, None, Option, ◌==◌, nat_le}
-use Rattle.doc.specs.Doc.{Doc, nil, text, cat, nest, line, group, fill}
+use Rattle.doc.specs.Doc.{Doc, nil, text, cat, nest, line, group}
 
 -- some byte ends a line, as none of a text may
 abbrev pub has_newline : List ℕ → Bool
@@ -26,7 +26,7 @@ abbrev pub read_byte : List ℕ → (ℕ → List ℕ → Parse) → Parse
 read_byte [] f = no_doc
 read_byte (b ∷ bs) f = f b bs
 
--- a document of at most n levels: 0 nothing; 1, how many bytes, and these; 2 and two documents; 3, how much, and one nested; 4 a line; 5 and one grouped; 6 and one filled
+-- a document of at most n levels: 0 nothing; 1, how many bytes, and these; 2 and two documents; 3, how much, and one nested; 4 a line; 5 and one grouped
 unfoldable pub reads : ℕ → List ℕ → Parse
 reads zero bs = no_doc
 reads (suc n) [] = no_doc
@@ -36,8 +36,7 @@ reads (suc n) (c ∷ cs) =
     (cond (c == 2) (then_read (reads n cs) (λ a ds. then_read (reads n ds) (λ b es. doc (cat a b) es)))
     (cond (c == 3) (read_byte cs (λ k ds. then_read (reads n ds) (λ a es. doc (nest k a) es)))
     (cond (c == 4) (doc line cs)
-    (cond (c == 5) (then_read (reads n cs) (λ a ds. doc (group a) ds))
-    (cond (c == 6) (then_read (reads n cs) (λ a ds. doc (fill a) ds)) no_doc))))))
+    (cond (c == 5) (then_read (reads n cs) (λ a ds. doc (group a) ds)) no_doc)))))
 
 -- a document with nothing behind it
 abbrev pub whole : Parse → Option Doc

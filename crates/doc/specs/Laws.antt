@@ -1,7 +1,6 @@
 -- What may be relied on of the encoding. Each is a statement, whose proof a function of `laws` asks for. Assumes nothing.
 use Rattle.std.specs.Prelude.{◌≡◌, ℕ, ◌≤◌, Bool, true, not, ◌&&◌, List, [], ◌∷◌, ◌++◌, length, Some, nat_le}
-use Rattle.std.specs.List.{AllByRecursion}
-use Rattle.doc.specs.Doc.{Doc, nil, text, cat, nest, line, group, fill}
+use Rattle.doc.specs.Doc.{Doc, nil, text, cat, nest, line, group}
 use Rattle.doc.specs.Encoding.{has_newline, decode}
 
 -- no text has the end of a line in it
@@ -12,7 +11,6 @@ plain (cat a b) = plain a && plain b
 plain (nest k a) = plain a
 plain line = true
 plain (group a) = plain a
-plain (fill a) = plain a
 
 -- every document that is read is plain
 abbrev pub ReadsPlain : Type 0
@@ -31,7 +29,6 @@ encodable (cat a b) = encodable a && encodable b
 encodable (nest k a) = nat_le k 255 && encodable a
 encodable line = true
 encodable (group a) = encodable a
-encodable (fill a) = encodable a
 
 -- how a document is written in bytes
 unfoldable pub encode : Doc → List ℕ
@@ -41,7 +38,6 @@ encode (cat a b) = 2 ∷ (encode a ++ encode b)
 encode (nest k a) = 3 ∷ k ∷ encode a
 encode line = 4 ∷ []
 encode (group a) = 5 ∷ encode a
-encode (fill a) = 6 ∷ encode a
 
 -- two encodings of one document are equal
 abbrev pub EncodedOnce : Type 0

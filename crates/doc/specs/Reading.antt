@@ -1,10 +1,9 @@
 -- What each step of reading answers. Assumes nothing: these are definitions.
-use Rattle.std.specs.Prelude.{◌≡◌, ℕ, ◌+◌, ◌<◌, ◌≤◌, false, List, [], ◌++◌, length, take, drop, Some, None, Option, Result, MatchOption, MatchResult, slice_index, slice_index_or, slice_set}
+use Rattle.std.specs.Prelude.{◌≡◌, ℕ, ◌+◌, ◌<◌, ◌≤◌, false, List, [], ◌++◌, length, take, drop, None, Option, Result, MatchOption, MatchResult, slice_index, slice_index_or, slice_set}
 use Rattle.doc.specs.Doc.{Doc}
-use Rattle.doc.specs.Encoding.{Parse, doc, no_doc, has_newline, read_byte, read_text, reads, decode}
+use Rattle.doc.specs.Encoding.{doc, no_doc, has_newline, read_byte, read_text, reads, decode}
 use Rattle.doc.specs.Nodes.{spells, laid, Spelled, RowOf, refusal_number, node}
-use Rattle.doc.specs.declared.node.Kind.{Kind}
-use Rattle.doc.specs.declared.node.Kind.TheVariants.{Nil, Text, Cat, Nest, Line, Group, Fill}
+use Rattle.doc.specs.declared.node.Kind.TheVariants.{Nil}
 use Rattle.doc.specs.declared.node.Node.{Node}
 use Rattle.doc.specs.declared.node.ReadError.{ReadError}
 
@@ -21,22 +20,6 @@ TextAt s at r =
 -- no document begins at a position, however many levels it may have
 abbrev pub NotRead : List ℕ → ℕ → Type 0
 NotRead s at = (n : ℕ) → length s < at + n → reads n (drop at s) ≡ no_doc
-
--- the first bytes of a document from a position on: its kind, and where its first part begins, or what is behind it
-abbrev pub Headed : List ℕ → ℕ → Kind → ℕ → Type 0
-Headed s at Nil next = (slice_index s at ≡ 0) × (next ≡ at + 1)
-Headed s at (Text start n) next =
-    (slice_index s at ≡ 1) × (next ≡ at + 2 + n) × (start ≡ at + 2) × (at + 1 < length s) × (n ≡ slice_index s (at + 1)) × (at + 1 + 1 + n ≤ length s)
-    × (has_newline (take n (drop (at + 1 + 1) s)) ≡ false) × (n ≤ 255)
-Headed s at Cat next = (slice_index s at ≡ 2) × (next ≡ at + 1)
-Headed s at (Nest k) next = (slice_index s at ≡ 3) × (next ≡ at + 2) × (at + 1 < length s) × (k ≡ slice_index s (at + 1)) × (k ≤ 255)
-Headed s at Line next = (slice_index s at ≡ 4) × (next ≡ at + 1)
-Headed s at Group next = (slice_index s at ≡ 5) × (next ≡ at + 1)
-Headed s at Fill next = (slice_index s at ≡ 6) × (next ≡ at + 1)
-
--- what the first bytes of a document say, if there can be one
-abbrev pub HeadAt : List ℕ → ℕ → Option (Kind × ℕ) → Type 0
-HeadAt s at r = MatchOption r (NotRead s at) (λ h. (at < length s) × Headed s at h.0 h.1)
 
 -- a document stands in s from a position to the next, and its nodes were added to a row
 pub record ReadOn (s : List ℕ) (at : ℕ) (old new : List Node) (next : ℕ) : Type 0 where

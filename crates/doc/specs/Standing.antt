@@ -1,10 +1,10 @@
 -- A document that stands in a row of nodes, for going through it node by node. Assumes nothing: these are definitions.
 use Rattle.std.specs.Prelude.{◌≡◌, ℕ, ◌+◌, ◌<◌, ◌≤◌, List, length, slice_index_or}
-use Rattle.doc.specs.Doc.{Doc, nil, text, cat, nest, line, group, fill}
+use Rattle.doc.specs.Doc.{Doc, nil, text, cat, nest, line, group}
 use Rattle.doc.specs.Nodes.{size, spells, node}
 use Rattle.doc.specs.Reading.{no_node}
 use Rattle.doc.specs.declared.node.Kind.{Kind}
-use Rattle.doc.specs.declared.node.Kind.TheVariants.{Nil, Text, Cat, Nest, Line, Group, Fill}
+use Rattle.doc.specs.declared.node.Kind.TheVariants.{Nil, Text, Cat, Nest, Line, Group}
 use Rattle.doc.specs.declared.node.Node.{Node}
 
 -- a node stands at an index
@@ -19,4 +19,3 @@ Stands ns (cat a b) p x = Is ns x Cat (x + size (cat a b)) × Stands ns a (p + 1
 Stands ns (nest k a) p x = Is ns x (Nest k) (x + size (nest k a)) × (k ≤ 255) × Stands ns a (p + 2) (x + 1)
 Stands ns line p x = Is ns x Line (x + 1)
 Stands ns (group a) p x = Is ns x Group (x + size (group a)) × Stands ns a (p + 1) (x + 1)
-Stands ns (fill a) p x = Is ns x Fill (x + size (fill a)) × Stands ns a (p + 1) (x + 1)

@@ -10,8 +10,6 @@ pub enum Kind {
     Nest(u8),
     Line,
     Group,
-    // A filled group.
-    Fill,
 }
 
 #[derive(Clone, Copy)]

@@ -2,7 +2,7 @@
 ghost use Rattle.std.specs.Prelude.{◌≡◌, ◌+◌, ◌<◌, ◌≤◌, [], ◌∷◌, ◌++◌, length};
 ghost use Rattle.doc.specs.Encoding.{has_newline};
 ghost use Rattle.doc.specs.Nodes.{node};
-ghost use Rattle.doc.specs.Reading.{ByteAt, HeadAt, TextAt, ReadsOn, ReadSays, closed};
+ghost use Rattle.doc.specs.Reading.{ByteAt, TextAt, ReadsOn, ReadSays, closed};
 
 use crate::node::{Kind, Node, ReadError};
 use crate::nodes::{MOST_BYTES, Nodes};
@@ -48,39 +48,6 @@ impl Source<'_> {
     }
 }
 
-impl Source<'_> {
-    // What kind of node the document that begins at a position has, and where its first part begins, or what is behind it.
-    fn head(&self, at: usize) -> Option<(Kind, usize)>
-        requires { length self.now.bytes.now ≤ 65536 }
-        ensures { HeadAt self.now.bytes.now at result }
-    {
-        let Some(tag) = self.byte(at) else {
-            return None;
-        };
-        let next = at + 1;
-        match tag {
-            0 => Some((Kind::Nil, next)),
-            1 => {
-                let Some(len) = self.text(next) else {
-                    return None;
-                };
-                Some((Kind::Text((at + 2) as u32, len), at + 2 + len as usize))
-            }
-            2 => Some((Kind::Cat, next)),
-            3 => {
-                let Some(k) = self.byte(next) else {
-                    return None;
-                };
-                Some((Kind::Nest(k), at + 2))
-            }
-            4 => Some((Kind::Line, next)),
-            5 => Some((Kind::Group, next)),
-            6 => Some((Kind::Fill, next)),
-            _ => None,
-        }
-    }
-}
-
 impl Nodes {
     // Adds a node with no parts yet, and answers where it stands.
     fn add(&mut self, kind: Kind) -> usize
@@ -111,21 +78,24 @@ impl Nodes {
         requires fewer { length self.old.row.items ≤ at }
         ensures { ReadsOn source.now.bytes.now at self.old.row.items self.new.row.items result }
     {
-        let Some((kind, next)) = source.head(at) else {
+        let Some(tag) = source.byte(at) else {
             return None;
         };
-        let place = self.add(kind);
-        match kind {
-            Kind::Nil | Kind::Text(_, _) | Kind::Line => Some(next),
-            Kind::Nest(_) | Kind::Group | Kind::Fill => {
-                let Some(end) = self.document(source, next) else {
+        match tag {
+            0 => {
+                self.add(Kind::Nil);
+                Some(at + 1)
+            }
+            1 => {
+                let Some(len) = source.text(at + 1) else {
                     return None;
                 };
-                self.close(place);
-                Some(end)
+                self.add(Kind::Text((at + 2) as u32, len));
+                Some(at + 2 + len as usize)
             }
-            Kind::Cat => {
-                let Some(middle) = self.document(source, next) else {
+            2 => {
+                let place = self.add(Kind::Cat);
+                let Some(middle) = self.document(source, at + 1) else {
                     return None;
                 };
                 let Some(end) = self.document(source, middle) else {
@@ -134,6 +104,30 @@ impl Nodes {
                 self.close(place);
                 Some(end)
             }
+            3 => {
+                let Some(k) = source.byte(at + 1) else {
+                    return None;
+                };
+                let place = self.add(Kind::Nest(k));
+                let Some(end) = self.document(source, at + 2) else {
+                    return None;
+                };
+                self.close(place);
+                Some(end)
+            }
+            4 => {
+                self.add(Kind::Line);
+                Some(at + 1)
+            }
+            5 => {
+                let place = self.add(Kind::Group);
+                let Some(end) = self.document(source, at + 1) else {
+                    return None;
+                };
+                self.close(place);
+                Some(end)
+            }
+            _ => None,
         }
     }
 

@@ -1,24 +1,25 @@
 -- Which refusal applies, and that what was written is the best layout. Assumes nothing.
-use Rattle.std.proofs.Common.{◌≡◌, ℕ, suc, ◌+◌, ◌*◌, ◌<◌, ◌≤◌, true, false, List, [], ◌++◌, length, drop, Some, None, vec_items, MatchBool, unwrap_or, sym, refl, ap, ◌∙◌, subst, ⊎_elim, append-nil, arith}
+use Rattle.std.proofs.Common.{◌≡◌, ℕ, suc, ◌+◌, ◌*◌, ◌<◌, ◌≤◌, Bool, false, List, [], ◌++◌, length, drop, replicate, Some, None, vec_items, MatchBool, unwrap_or, sym, refl, ap, ◌∙◌, subst, ⊎_elim, append-nil, arith}
 use Rattle.std.proofs.lemmas.List.{take_all}
-use Rattle.std.proofs.lemmas.Bool.{cond-true, cond-false, le-leb, lt-leb, cases_Bool}
+use Rattle.std.proofs.lemmas.Bool.{cond-true, cond-false, le-leb, lt-leb, cases_Bool, cases_lt}
 use Rattle.doc.specs.Doc.{Doc, nil}
 use Rattle.doc.specs.Encoding.{decode}
-use Rattle.doc.specs.Nodes.{size, laid, RowOf}
+use Rattle.doc.specs.Nodes.{size, RowOf}
 use Rattle.doc.specs.Standing.{Stands}
 use Rattle.doc.specs.declared.node.Node.{Node}
 use Rattle.doc.proofs.Shapes.{laid_stands}
 use Rattle.doc.proofs.Sizes.{length_laid}
-use Rattle.cost.specs.Layout.{Layout, Broken, empty}
-use Rattle.cost.specs.Best.{best}
+use Rattle.cost.specs.Layout.{empty}
+use Rattle.cost.specs.Best.{beyond, best}
+use Rattle.cost.specs.Price.{limit}
 use Rattle.cost.specs.ToGo.{stop}
 use Rattle.cost.specs.Chosen.{notes, chosen}
-use Rattle.cost.specs.declared.price.Breaks.TheVariants.{All}
-use Rattle.cost.specs.Row.{level, no_cost, Sound, Tells}
-use Rattle.cost.proofs.Steps.{level_sound}
+use Rattle.cost.specs.declared.price.Mode.TheVariants.{Broken}
+use Rattle.cost.specs.Row.{Tells, no_cost}
 use Rattle.cost.proofs.Tells.{tells_stop}
 use Rattle.cost.proofs.Level.{level_stop}
 use Rattle.cost.proofs.Chosen.{chosen_best}
+use Rattle.cost.proofs.Counted.{best_counted}
 use Rattle.layout.specs.Entry.{refusal, refusal_of, the_best, length_refusal, SetSays}
 use Rattle.layout.specs.Searching.{Quest, Found}
 use Rattle.layout.specs.Writing.{Holds, Task, Writes}
@@ -64,13 +65,24 @@ pub says_lines : (spelled : List ℕ) (w : ℕ) (out exit : List ℕ) (refused :
 says_lines spelled w out exit refused r e f g = subst (λ n. SetSays spelled w out n r exit) (sym e) (f, g)
 
 -- what the writer holds in the end: the best layout, or that it is too long
-pub holds_best : (w : ℕ) (d : Doc) (v : Writer) (n : ℕ) → Holds v (chosen w d 0 Broken stop empty) n → MatchBool v.full (131072 < length (best w d).out) ((vec_items v.out ≡ (best w d).out) × (v.lines ≡ (best w d).lines))
-holds_best w d v n h =
-    let g : Holds v (best w d) n = subst (λ l. Holds v l n) (chosen_best w d) h in
+pub holds_best : (w : ℕ) (d : Doc) (v : Writer) (n : ℕ) → size d ≤ 65536 → Holds v (chosen w d 0 Broken stop empty) n → MatchBool v.full (131072 < length (best w d).out) ((vec_items v.out ≡ (best w d).out) × (v.lines ≡ (best w d).lines))
+holds_best w d v n few h =
+    let known = chosen_best w d few in
+    let made = chosen w d 0 Broken stop empty in
+    ⊎_elim
+    (λ near.
+    let same : made ≡ best w d = known.0 near in
+    let g : Holds v (best w d) n = subst (λ l. Holds v l n) same h in
     ⊎_elim
     (λ full. from_true v.full _ _ full (when_true _ _ full g))
     (λ rest. let parts = parts_of v (best w d) n rest g in from_false v.full _ _ rest (parts.0, parts.2))
-    (cases_Bool v.full)
+    (cases_Bool v.full))
+    (λ far.
+    ⊎_elim
+    (λ full. from_true v.full _ _ full (omega (arith, best_counted w d)))
+    (λ rest. let parts = parts_of v made n rest h in absurd (omega (arith, known.1 far, ap length parts.0, v.short, v.out.ok.0)))
+    (cases_Bool v.full))
+    (cases_lt (beyond w (best w d)) limit)
 
 -- the whole document
 module _ (s : List ℕ) (ns : List Node) (r : RowOf s ns) where
@@ -80,15 +92,14 @@ module _ (s : List ℕ) (ns : List Node) (r : RowOf s ns) where
   whole_long : length ns ≡ size r.what
   whole_long = ap length r.row_is ∙ length_laid r.what 0 0
 
-  pub whole_quest : (v : Search) → v.offset ≡ 0 → v.flat ≡ 0 → vec_items v.saved ≡ [] → vec_items v.notes ≡ [] → vec_items v.row ≡ level no_cost v.width → Quest ns 0 0 v
-  whole_quest v offset flat saved noted row =
+  pub whole_quest : (v : Search) → v.offset ≡ 0 → v.flat ≡ 0 → vec_items v.saved ≡ [] → vec_items v.notes ≡ [] → Quest ns 0 0 v
+  whole_quest v offset flat saved noted =
       let few = r.few in
       let no-saved = ap length saved in
       let no-notes = ap length noted in
       record {
         what = r.what;
         from = 0;
-        done = 1;
         stands = whole_stands;
         few = omega (arith, whole_long);
         shallow = omega arith;
@@ -96,20 +107,18 @@ module _ (s : List ℕ) (ns : List Node) (r : RowOf s ns) where
         short = omega arith;
         deep = omega (arith, v.saved.ok.0);
         many = omega (arith, v.notes.ok.0);
-        sound = subst (λ x. Sound 1 v.width x) (sym row) (level_sound 1 v.width no_cost (omega arith) (omega arith));
-        left = omega arith;
       }
 
   -- what the search has noted from the end of the document on
-  pub whole_notes : (w : ℕ) (v u : Search) → v.width ≡ w → vec_items v.row ≡ level no_cost w → v.offset ≡ 0 → vec_items v.notes ≡ [] → ((d : Doc) (p : ℕ) → Stands ns d p 0 → Found d 0 Broken v u) → vec_items u.notes ≡ notes w r.what 0 Broken stop
+  pub whole_notes : (w : ℕ) (v u : Search) → v.width ≡ w → vec_items v.row ≡ replicate (suc w) no_cost → v.offset ≡ 0 → vec_items v.notes ≡ [] → ((d : Doc) (p : ℕ) → Stands ns d p 0 → Found d 0 v u) → vec_items u.notes ≡ notes w r.what 0 stop
   whole_notes w v u width row offset none found =
       let tells : Tells v.width (vec_items v.row) v.offset stop =
       subst (λ x. Tells x (vec_items v.row) v.offset stop) (sym width)
-      (subst (λ x. Tells w x v.offset stop) (sym row) (subst (λ x. Tells w (level no_cost w) x stop) (sym offset) (tells_stop w))) in
-      (found r.what 0 whole_stands).noted stop tells
-      ∙ (λ i. none i ++ notes (width i) r.what 0 Broken stop)
+      (subst (λ x. Tells w x v.offset stop) (sym row) (subst (λ x. Tells w (replicate (suc w) no_cost) x stop) (sym offset) (tells_stop w))) in
+      (found r.what 0 whole_stands).noted stop (level_stop v.width) tells
+      ∙ (λ i. none i ++ notes (width i) r.what 0 stop)
 
-  pub whole_task : (w : ℕ) (noted : List ℕ) (left : ℕ) → noted ≡ notes w r.what 0 Broken stop → left ≡ length noted → Task s ns noted w 0 0 Broken left
+  pub whole_task : (w : ℕ) (noted : List Bool) (left : ℕ) → noted ≡ notes w r.what 0 stop → left ≡ length noted → Task s ns noted w 0 0 left
   whole_task w noted left e f = record {
     what = r.what;
     from = 0;
@@ -121,15 +130,14 @@ module _ (s : List ℕ) (ns : List Node) (r : RowOf s ns) where
     within = omega arith;
     shallow = omega arith;
     few = omega (arith, whole_long, r.few);
-    level = level_stop w;
   }
 
-  pub whole_written : (w : ℕ) (noted : List ℕ) (v u : Writer) → noted ≡ notes w r.what 0 Broken stop → vec_items v.out ≡ [] → v.column ≡ 0 → v.lines ≡ 0 → v.left ≡ length noted → v.full ≡ false → Writes s ns noted w 0 0 All false v u → MatchBool u.full (131072 < length (the_best s w).out) ((vec_items u.out ≡ (the_best s w).out) × (u.lines ≡ (the_best s w).lines))
+  pub whole_written : (w : ℕ) (noted : List Bool) (v u : Writer) → noted ≡ notes w r.what 0 stop → vec_items v.out ≡ [] → v.column ≡ 0 → v.lines ≡ 0 → v.left ≡ length noted → v.full ≡ false → Writes s ns noted w 0 0 Broken v u → MatchBool u.full (131072 < length (the_best s w).out) ((vec_items u.out ≡ (the_best s w).out) × (u.lines ≡ (the_best s w).lines))
   unfolding whole_task
   whole_written w noted v u e out column lines left full writes =
       let held : Holds v empty v.left = from_false v.full _ _ full (out, column, lines, refl) in
       subst (λ l. MatchBool u.full (131072 < length l.out) ((vec_items u.out ≡ l.out) × (u.lines ≡ l.lines))) (sym (best_is s w 0 r.what r.decoded))
-      (holds_best w r.what u 0 (writes (whole_task w noted v.left e left) empty held))
+      (holds_best w r.what u 0 r.few (writes (whole_task w noted v.left e left) empty held))
 
 -- how the best layout is answered, once its length is known; the columns are the width
 module _ (spelled : List ℕ) (w cols : ℕ) (out exit : List ℕ) (d : Doc) (e : decode spelled ≡ Some d) (same : cols ≡ w) (narrow : cols ≤ 255) where

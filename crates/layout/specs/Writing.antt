@@ -1,13 +1,12 @@
 -- What the writer holds and is given. Assumes nothing: these are definitions.
-use Rattle.std.specs.Prelude.{◌≡◌, ℕ, ◌*◌, ◌<◌, ◌≤◌, Bool, List, [], ◌∷◌, ◌++◌, length, take, vec_items, MatchBool}
+use Rattle.std.specs.Prelude.{◌≡◌, ℕ, ◌*◌, ◌<◌, ◌≤◌, Bool, List, ◌++◌, length, take, vec_items, MatchBool}
 use Rattle.doc.specs.Doc.{Doc}
 use Rattle.doc.specs.Nodes.{Spelled}
 use Rattle.doc.specs.Standing.{Stands}
 use Rattle.doc.specs.declared.node.Node.{Node}
-use Rattle.cost.specs.Layout.{Layout, Mode}
-use Rattle.cost.specs.Chosen.{chosen, mode_of, notes, within}
-use Rattle.cost.specs.Row.{Level}
-use Rattle.cost.specs.declared.price.Breaks.{Breaks}
+use Rattle.cost.specs.Layout.{Layout}
+use Rattle.cost.specs.Chosen.{chosen, notes}
+use Rattle.cost.specs.declared.price.Mode.{Mode}
 use Rattle.layout.specs.declared.writer.Writer.{Writer}
 
 -- these are a layout's bytes, column and lines, with so many notes left; or it is too long
@@ -27,26 +26,21 @@ pub record SameButLeft (v u : Writer) (left : ℕ) : Type 0 where
   pub same_full : u.full ≡ v.full
   pub left_is : u.left ≡ left
 
--- the last of the notes that are left is a whole one
-abbrev pub LastNote : List ℕ → ℕ → Type 0
-LastNote noted left = (left ≤ length noted) × ((before : List ℕ) × ((turns : List ℕ) × (take left noted ≡ before ++ (turns ++ (length turns ∷ [])))))
-
 -- a document to write: it stands in the nodes, its texts in the source, and its decisions are the last of those that are left
-pub record Task (source : List ℕ) (ns : List Node) (noted : List ℕ) (w at indent : ℕ) (m : Mode) (left : ℕ) : Type 0 where
+pub record Task (source : List ℕ) (ns : List Node) (noted : List Bool) (w at indent left : ℕ) : Type 0 where
   pub what : Doc
   pub from : ℕ
   pub rest : ℕ → Layout
-  pub before : List ℕ
+  pub before : List Bool
   pub stands : Stands ns what from at
   pub spelled : Spelled source what from
-  pub decisions : take left noted ≡ before ++ notes w what indent m rest
+  pub decisions : take left noted ≡ before ++ notes w what indent rest
   pub within : left ≤ length noted
   pub shallow : indent ≤ 255 * at
   pub few : length ns ≤ 65536
-  pub level : Level w rest
 
 -- what was written of the document at a node is what its decisions choose, behind any layout that the writer held
-abbrev pub Writes : List ℕ → List Node → List ℕ → (w at indent : ℕ) → Breaks → (flat : Bool) → (v u : Writer) → Type 0
-Writes source ns noted w at indent b flat v u =
-    (t : Task source ns noted w at indent (mode_of b) v.left) (l : Layout) → Holds v l v.left →
-    Holds u (chosen w t.what indent (within flat b) t.rest l) (length t.before)
+abbrev pub Writes : List ℕ → List Node → List Bool → (w at indent : ℕ) → Mode → (v u : Writer) → Type 0
+Writes source ns noted w at indent m v u =
+    (t : Task source ns noted w at indent v.left) (l : Layout) → Holds v l v.left →
+    Holds u (chosen w t.what indent m t.rest l) (length t.before)

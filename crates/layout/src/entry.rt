@@ -8,7 +8,7 @@ use crate::reply::{LINES_UNIT, Reply};
 use crate::tree::Tree;
 use crate::watch::{Stage, Unwatched, Watch};
 use crate::workspace::Workspace;
-use cost::price::Breaks;
+use cost::price::Mode;
 
 // A layout has at most so many bytes.
 pub use crate::writer::MOST_LAYOUT;
@@ -57,16 +57,17 @@ impl Workspace {
     {
         let nodes = self.nodes.as_slice();
         self.search.begin(width);
-        self.search.search(&Tree { nodes }, 0, 0, Breaks::All);
+        self.search.search(&Tree { nodes }, 0, 0);
         watch.ended(Stage::Searching);
         let notes = self.search.notes.as_slice();
         let plan = Plan {
             nodes,
             source: spelled,
             notes,
+            width,
         };
         self.writer.begin(notes.len());
-        self.writer.write(&plan, 0, 0, Breaks::All, false);
+        self.writer.write(&plan, 0, 0, Mode::Broken);
         if self.writer.full {
             return None;
         }

@@ -6,5 +6,6 @@ pub(crate) struct Plan<'a> {
     pub(crate) nodes: &'a [Node],
     pub(crate) source: &'a [u8],
     // The decisions that the search has noted, the first group's last.
-    pub(crate) notes: &'a [u16],
+    pub(crate) notes: &'a [bool],
+    pub(crate) width: usize,
 }

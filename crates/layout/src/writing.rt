@@ -1,31 +1,17 @@
 // Writing: from the left to the right, by the decisions that the search has noted.
-ghost use Rattle.std.specs.Prelude.{◌≡◌, ℕ, ◌≤◌, true, false, not, ◌||◌, List, [], ◌∷◌, ◌++◌, length, take, if◌then◌else◌};
+ghost use Rattle.std.specs.Prelude.{◌≡◌, ℕ, ◌+◌, ◌-◌, ◌≤◌, min, true, false, [], ◌∷◌, length, slice_index_or};
 ghost use Rattle.cost.specs.Layout.{Layout, with_text, with_line};
-ghost use Rattle.cost.specs.Chosen.{mode_of};
-ghost use Rattle.cost.specs.Turns.{turned};
-ghost use Rattle.layout.specs.Writing.{Holds, LastNote, SameButLeft, Task, Writes};
+ghost use Rattle.cost.specs.Chosen.{decided};
+ghost use Rattle.layout.specs.Writing.{Holds, SameButLeft, Task, Writes};
 
 use crate::plan::Plan;
 use crate::writer::{MOST_LAYOUT, Writer};
-use cost::price::Breaks;
+use cost::price::Mode;
 use doc::node::Kind;
 
 const NEWLINE: u8 = 10;
 
 const BLANK: u8 = 32;
-
-// Whether a decision that turns at some columns has turned an odd number of times at a column.
-fn odd_turns(turns: &[u16], column: usize) -> bool
-    ensures { result ≡ turned turns.now column }
-{
-    let mut breaks = false;
-    for turn in turns {
-        if *turn as usize <= column {
-            breaks = !breaks;
-        }
-    }
-    breaks
-}
 
 impl Writer {
     // Text at the column.
@@ -59,44 +45,28 @@ impl Writer {
         self.lines += 1;
     }
 
-    // A line: a blank, or the end of one.
-    fn line(&mut self, indent: usize, flat: bool)
-        requires { indent ≤ 16777216 }
-        ensures stops { self.old.full ≡ true → self.new.full ≡ true }
-        ensures writes { (w : ℕ) (l : Layout) (left : ℕ) → Holds self.old l left → Holds self.new (if flat then with_text (32 ∷ []) l else with_line w indent l) left }
+    // The mode of a group's parts, by the last of the notes that are left, at the column where the group begins.
+    fn decide(&mut self, plan: &Plan, mode: Mode) -> Mode
+        requires narrow { plan.now.width ≤ 255 }
+        requires some { plan.now.width + 1 ≤ self.old.left }
+        requires within { self.old.left ≤ length plan.now.notes.now }
+        ensures mode { result ≡ decided mode (slice_index_or plan.now.notes.now (self.old.left - (plan.now.width + 1) + min self.old.column plan.now.width) false) }
+        ensures same { SameButLeft self.old self.new (self.old.left - (plan.now.width + 1)) }
     {
-        if flat {
-            self.text(b" ");
-        } else {
-            self.newline(indent);
+        self.left -= plan.width + 1;
+        let breaks = plan.notes[self.left + self.column.min(plan.width)];
+        match mode {
+            Mode::Flat => Mode::Flat,
+            Mode::Broken => { if breaks { Mode::Broken } else { Mode::Flat } }
         }
     }
 
-    // Whether the first of two ways is gone: within a flat group it always is, and otherwise the last of the notes that are left tells it, at the column.
-    fn decide(&mut self, plan: &Plan, flat: bool) -> bool
-        requires { LastNote plan.now.notes.now self.old.left }
-        ensures told { (before turns : List ℕ) → take self.old.left plan.now.notes.now ≡ before ++ (turns ++ (length turns ∷ [])) → result ≡ (flat || not (turned turns self.old.column)) }
-        ensures same { (before turns : List ℕ) → take self.old.left plan.now.notes.now ≡ before ++ (turns ++ (length turns ∷ [])) → SameButLeft self.old self.new (length before) }
-    {
-        let last = self.left - 1;
-        let count = plan.notes[last] as usize;
-        self.left = last - count;
-        let second = odd_turns(&plan.notes[self.left..last], self.column);
-        flat || !second
-    }
-
-    // Writes the document at a node, as a part of a group whose lines break so, within a flat group or not.
-    pub(crate) fn write(
-        &mut self,
-        plan: &Plan,
-        at: usize,
-        indent: usize,
-        breaks: Breaks,
-        flat: bool,
-    )
-        requires task { self.old.full ≡ false → ((w : ℕ) × Task plan.now.source.now plan.now.nodes.now plan.now.notes.now w at indent (mode_of breaks) self.old.left) }
+    // Writes the document at a node.
+    pub(crate) fn write(&mut self, plan: &Plan, at: usize, indent: usize, mode: Mode)
+        requires narrow { plan.now.width ≤ 255 }
+        requires task { self.old.full ≡ false → Task plan.now.source.now plan.now.nodes.now plan.now.notes.now plan.now.width at indent self.old.left }
         ensures stops { self.old.full ≡ true → self.new.full ≡ true }
-        ensures writes { (w : ℕ) → Writes plan.now.source.now plan.now.nodes.now plan.now.notes.now w at indent breaks flat self.old self.new }
+        ensures writes { Writes plan.now.source.now plan.now.nodes.now plan.now.notes.now plan.now.width at indent mode self.old self.new }
     {
         if self.full {
             return;
@@ -111,21 +81,17 @@ impl Writer {
             }
             Kind::Cat => {
                 let second = plan.nodes[at + 1].end as usize;
-                self.write(plan, at + 1, indent, breaks, flat);
-                self.write(plan, second, indent, breaks, flat);
+                self.write(plan, at + 1, indent, mode);
+                self.write(plan, second, indent, mode);
             }
-            Kind::Nest(k) => self.write(plan, at + 1, indent + k as usize, breaks, flat),
-            Kind::Line => match breaks {
-                Breaks::All => self.line(indent, flat),
-                Breaks::Each => {
-                    let blank = self.decide(plan, flat);
-                    self.line(indent, blank);
-                }
+            Kind::Nest(k) => self.write(plan, at + 1, indent + k as usize, mode),
+            Kind::Line => match mode {
+                Mode::Flat => self.text(b" "),
+                Mode::Broken => self.newline(indent),
             },
-            Kind::Fill => self.write(plan, at + 1, indent, Breaks::Each, flat),
             Kind::Group => {
-                let inner = self.decide(plan, flat);
-                self.write(plan, at + 1, indent, Breaks::All, inner);
+                let inner = self.decide(plan, mode);
+                self.write(plan, at + 1, indent, inner);
             }
         }
     }

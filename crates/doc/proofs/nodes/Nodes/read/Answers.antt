@@ -1,4 +1,4 @@
-use Rattle.std.proofs.Common.{refl, arith}
+use Rattle.std.proofs.Common.{refl}
 use Rattle.doc.proofs.Parsing.{whole_long, whole_none, whole_more, whole_read}
 use Rattle.doc.proofs.nodes.Nodes.read.Goals as goal
 

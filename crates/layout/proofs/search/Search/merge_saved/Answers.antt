@@ -1,40 +1,26 @@
-use Rattle.std.proofs.Common.{vec_items, sym, refl, ◌∙◌, subst, arith}
-use Rattle.cost.specs.Pieces.{Merged}
-use Rattle.cost.specs.Row.{Sound}
-use Rattle.layout.proofs.Going.{under_kept, last_kept, lent_kept, merged_as}
+use Rattle.std.proofs.Common.{◌≡◌, ℕ, ◌+◌, ◌-◌, length, refl, ◌∙◌, arith}
+use Rattle.std.proofs.lemmas.List.{with_items_is}
+use Rattle.layout.proofs.Going.{under_kept, last_kept, merged_row, merged_long, merged_notes}
 use Rattle.layout.proofs.search.Search.merge_saved.Goals as goal
 
-pub merge-requires : goal.merge-requires
-merge-requires c =
-    let v = c.args.self.now in
-    let n = c.requires.sound.0 in
-    record {
-      sound = (
-        n,
-        (
-          omega (arith, c.requires.sound.1.0),
-          subst (λ x. Sound n v.width x) (sym (lent_kept c.args.base _ c.as_slice.result.now _ c.as_slice.ensures.value refl)) c.requires.sound.1.1,
-          subst (λ x. Sound n v.width x) (sym c.as_slice-2.ensures.value) c.requires.sound.1.2,
-        ),
-      );
-      narrow = v.narrow;
-      near = (omega (arith, c.requires.near.1), omega (arith, c.requires.near.0));
-      room = (v.spare, omega (arith, c.requires.room, v.many));
-    }
-
 pub returns : goal.returns
-returns c =
+returns c = λ under kept is long.
+    let w : ℕ = c.args.self.now.width in
+    let reach : ℕ = c.args.reach in
+    let shift : ℕ = c.args.self.now.offset in
+    let base : ℕ = c.len.result - w - 1 in
+    let base_is : base ≡ length c.args.self.now.saved.items - w - 1 = omega (arith, c.len.ensures, c.args.self.now.saved.ok.0) in
+    let wide : length c.args.self.now.row.items ≡ w + 1 = omega (arith, c.args.self.now.row.ok.0, c.args.self.now.long) in
+    let broken = c.as_mut_slice.ensures in
+    let flat = last_kept w base _ under kept is long base_is c.as_slice.result.now _ c.as_slice.ensures.value refl in
     record {
+      same_width = refl;
       same_flat = refl;
-      joined = λ under kept is base.
-          record {
-            same_width = refl;
-            begins = refl;
-            saved_is = c.truncate.ensures.items ∙ under_kept c.args.base _ under kept is base;
-            merged =
-                subst (λ x. Merged c.args.self.now.width kept c.args.reach (vec_items c.args.self.now.row) c.args.self.now.offset (vec_items x) (vec_items c.args.self.now.notes) (vec_items c.merge.new.notes)) (sym c.swap.ensures.x_after)
-                (merged_as _ _ kept _ _ _ _ _ _ _
-                (lent_kept c.args.base _ c.as_slice.result.now _ c.as_slice.ensures.value refl ∙ last_kept c.args.base _ under kept is base)
-                c.as_slice-2.ensures.value c.merge.ensures.merged);
-          };
+      begins = refl;
+      saved_is = c.truncate.ensures.items ∙ under_kept w base _ under kept is long base_is;
+      row_is =
+          with_items_is c.args.self.now.row c.merge.new.broken
+          (merged_long w reach shift _ kept _ _ broken.value flat wide _ _ c.merge.ensures.row broken.len)
+          ∙ merged_row w reach shift _ kept _ _ broken.value flat wide _ c.merge.ensures.row;
+      notes_are = merged_notes w reach shift _ kept _ _ broken.value flat wide _ _ c.merge.ensures.notes;
     }
