@@ -1,7 +1,7 @@
 #!/usr/bin/env python3
 """Documents to measure the printer with, each at 1, 4, 16 and 64 KiB.
 
-    documents.py FOLDER     writes NAME-KIB of every kind and size into a folder
+    kinds.py FOLDER     writes NAME-KIB of every kind and size into a folder
 
 Each is made from the same seed, so that two runs measure the same bytes, and none is longer than its
 size says. What fills a document up to its size is more of the same.
