@@ -4,7 +4,6 @@ use calls::calling::set_call;
 use calls::reader::Fault;
 use calls::rule::{DEFAULT, Rule};
 use layout::reply::Reply;
-use std::process::Abort;
 use std::test::*;
 
 const CALL: &str = "let(x, put(bread,\n\tslice(cheese, thin), salt))\n";
@@ -27,22 +26,19 @@ fn letter(fault: Fault) -> (char, usize) {
     }
 }
 
-fn is_faulty(
-    rt: &impl Abort,
-    room: &mut CallRoom,
-    source: &[u8],
-    what: char,
-    place: usize,
-) -> Result<(), Fail> {
+fn is_faulty(room: &mut CallRoom, source: &[u8], what: char, place: usize) -> Result<(), Fail> {
     let mut out = [7u8; 4];
     let reply = set_call(room, &DEFAULT, source, 80, &mut out);
     let Err(CallError::Faulty(fault)) = reply else {
         return Err(Fail::new(format_args!("not faulty: the bytes {source:?}")));
     };
     let (kind, at) = letter(fault);
-    assert_eq!(rt; kind, what, "the bytes {source:?}");
-    assert_eq!(rt; at, place, "the bytes {source:?}");
-    assert_eq!(rt; out[0], 7);
+    if kind != what || at != place {
+        return Err(Fail::new(format_args!("fault {kind} at {at}: the bytes {source:?}")));
+    }
+    if out[0] != 7 {
+        return Err(Fail::new(format_args!("written: the bytes {source:?}")));
+    }
     Ok(())
 }
 
@@ -87,7 +83,7 @@ fn faults(rt: HostRuntime) -> Result<(), Fail> {
         ("f(a b)", 'b', 4),
     ];
     for (source, what, place) in cases {
-        is_faulty(&rt, &mut room, source.as_bytes(), what, place)?;
+        is_faulty(&mut room, source.as_bytes(), what, place)?;
     }
     Ok(())
 }
@@ -125,7 +121,7 @@ fn deep_sources(rt: HostRuntime) -> Result<(), Fail> {
     let heap = rt.alloc();
     let mut room = CallRoom::new(heap)?;
     let mut source = vec![in heap; b'('; 60_000]?;
-    is_faulty(&rt, &mut room, source.as_slice(), 'o', 59_999)?;
+    is_faulty(&mut room, source.as_slice(), 'o', 59_999)?;
     source.resize(120_000, b')')?;
     let mut out = [7u8; 4];
     let Ok(Reply::Refused(n)) = set_call(&mut room, &DEFAULT, source.as_slice(), 80, &mut out)

@@ -3,7 +3,6 @@ use layout::entry::set;
 use layout::reply::Reply;
 use layout::workspace::Workspace;
 use std::alloc::{AllocError, Global};
-use std::process::Abort;
 use std::test::*;
 
 #[derive(Drop)]
@@ -13,10 +12,13 @@ pub struct Desk {
 }
 
 // Each byte is still the one that the buffer was filled with.
-fn kept(rt: &impl Abort, bytes: &[u8]) {
+fn kept(bytes: &[u8]) -> Result<(), Fail> {
     for b in bytes {
-        assert_eq!(rt; *b, 7);
+        if *b != 7 {
+            return Err(Fail::new(format_args!("{b} was written where nothing is to be")));
+        }
     }
+    Ok(())
 }
 
 impl Desk {
@@ -36,7 +38,6 @@ impl Desk {
     // The layout, its length and its lines; behind it the buffer is as it was.
     pub fn gives(
         &mut self,
-        rt: &impl Abort,
         spelled: &[u8],
         width: u64,
         layout: &[u8],
@@ -46,28 +47,26 @@ impl Desk {
         if let Reply::Refused(n) = reply {
             return Err(Fail::new(format_args!("refused with {n} at width {width}")));
         }
-        assert_eq!(rt; reply.length(), layout.len(), "at width {width}");
-        assert_eq!(rt; reply.lines(), lines, "at width {width}");
+        if reply.length() != layout.len() {
+            return Err(Fail::new(format_args!("another length at width {width}")));
+        }
+        if reply.lines() != lines {
+            return Err(Fail::new(format_args!("another number of lines at width {width}")));
+        }
         let Some(behind) = self.out.as_slice().strip_prefix(layout) else {
             return Err(Fail::new(format_args!("another layout at width {width}")));
         };
-        kept(rt, behind);
-        Ok(())
+        kept(behind)
     }
 
     // The number of a refusal; all of the buffer is as it was.
-    pub fn refuses(
-        &mut self,
-        rt: &impl Abort,
-        spelled: &[u8],
-        width: u64,
-        number: u64,
-    ) -> Result<(), Fail> {
+    pub fn refuses(&mut self, spelled: &[u8], width: u64, number: u64) -> Result<(), Fail> {
         let Reply::Refused(n) = self.ask(spelled, width) else {
             return Err(Fail::new(format_args!("not refused: the bytes {spelled:?}")));
         };
-        assert_eq!(rt; n, number, "the bytes {spelled:?}");
-        kept(rt, self.out.as_slice());
-        Ok(())
+        if n != number {
+            return Err(Fail::new(format_args!("refused with {n}: the bytes {spelled:?}")));
+        }
+        kept(self.out.as_slice())
     }
 }

@@ -3,7 +3,6 @@ use crate::desk::Desk;
 use crate::sample;
 use crate::sample::{BEHIND, CALL};
 use std::alloc::{AllocError, Global};
-use std::process::Abort;
 use std::test::*;
 
 // A text of one byte in front of the longest layout makes it one byte too long.
@@ -20,9 +19,9 @@ pub fn longest(heap: Global) -> Result<Vec<u8>, AllocError> {
 #[test]
 fn widest(rt: HostRuntime) -> Result<(), Fail> {
     let mut desk = Desk::new(rt.alloc(), 100)?;
-    desk.gives(&rt, BEHIND, 255, b"aaaa bcccc", 0)?;
-    desk.refuses(&rt, BEHIND, 256, 2)?;
-    desk.refuses(&rt, BEHIND, u64::MAX, 2)
+    desk.gives(BEHIND, 255, b"aaaa bcccc", 0)?;
+    desk.refuses(BEHIND, 256, 2)?;
+    desk.refuses(BEHIND, u64::MAX, 2)
 }
 
 // A layout of 131,072 bytes is not too long, and one of 131,073 is.
@@ -33,45 +32,32 @@ fn longest_layout(rt: HostRuntime) -> Result<(), Fail> {
     let layout = longest(heap)?;
     assert_eq!(rt; layout.len(), 131_072);
     desk.gives(
-        &rt,
         sample::lines_behind(heap, b"")?.as_slice(),
         80,
         layout.as_slice(),
         512,
     )?;
-    desk.refuses(&rt, sample::lines_behind(heap, ONE_MORE)?.as_slice(), 80, 3)
+    desk.refuses(sample::lines_behind(heap, ONE_MORE)?.as_slice(), 80, 3)
 }
 
 // A buffer as long as a layout has room for it, and one that is a byte shorter has none.
-fn just_enough(
-    rt: &impl Abort,
-    heap: Global,
-    spelled: &[u8],
-    layout: &[u8],
-    lines: u64,
-) -> Result<(), Fail> {
+fn just_enough(heap: Global, spelled: &[u8], layout: &[u8], lines: u64) -> Result<(), Fail> {
     let len = layout.len();
-    Desk::new(heap, len)?.gives(rt, spelled, 8, layout, lines)?;
+    Desk::new(heap, len)?.gives(spelled, 8, layout, lines)?;
     let Some(less) = len.checked_sub(1) else {
         return Ok(());
     };
-    Desk::new(heap, less)?.refuses(rt, spelled, 8, 4)
+    Desk::new(heap, less)?.refuses(spelled, 8, 4)
 }
 
 // A buffer may be exactly as long as a layout, of 10 bytes, of none and of 131,072.
 #[test]
 fn shortest_buffer(rt: HostRuntime) -> Result<(), Fail> {
     let heap = rt.alloc();
-    just_enough(&rt, heap, BEHIND, b"aaaa\nbcccc", 1)?;
-    just_enough(&rt, heap, b"\x00", b"", 0)?;
+    just_enough(heap, BEHIND, b"aaaa\nbcccc", 1)?;
+    just_enough(heap, b"\x00", b"", 0)?;
     let spelled = sample::lines_behind(heap, b"")?;
-    just_enough(
-        &rt,
-        heap,
-        spelled.as_slice(),
-        longest(heap)?.as_slice(),
-        512,
-    )
+    just_enough(heap, spelled.as_slice(), longest(heap)?.as_slice(), 512)
 }
 
 // Of several refusals that apply the first is told.
@@ -88,7 +74,7 @@ fn first_refusal(rt: HostRuntime) -> Result<(), Fail> {
         (CALL, 80, 4),
     ];
     for (spelled, width, number) in cases {
-        desk.refuses(&rt, spelled, width, number)?;
+        desk.refuses(spelled, width, number)?;
     }
     Ok(())
 }

@@ -32,10 +32,10 @@ fn call_after_call(rt: HostRuntime) -> Result<(), Fail> {
     let spelled = sample::lines_behind(heap, b"")?;
     let layout = edges::longest(heap)?;
     for _ in 0..2 {
-        desk.gives(&rt, spelled.as_slice(), 80, layout.as_slice(), 512)?;
-        desk.gives(&rt, BEHIND, 8, b"aaaa\nbcccc", 1)?;
-        desk.refuses(&rt, b"\x02\x04", 8, 1)?;
-        desk.refuses(&rt, CALL, 256, 2)?;
+        desk.gives(spelled.as_slice(), 80, layout.as_slice(), 512)?;
+        desk.gives(BEHIND, 8, b"aaaa\nbcccc", 1)?;
+        desk.refuses(b"\x02\x04", 8, 1)?;
+        desk.refuses(CALL, 256, 2)?;
     }
     Ok(())
 }

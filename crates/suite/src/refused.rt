@@ -29,7 +29,7 @@ fn no_document(rt: HostRuntime) -> Result<(), Fail> {
         b"\x01\x02abc",
     ];
     for spelled in cases {
-        desk.refuses(&rt, spelled, 80, 1)?;
+        desk.refuses(spelled, 80, 1)?;
     }
     Ok(())
 }
@@ -38,8 +38,8 @@ fn no_document(rt: HostRuntime) -> Result<(), Fail> {
 #[test]
 fn ten_is_a_number(rt: HostRuntime) -> Result<(), Fail> {
     let mut desk = Desk::new(rt.alloc(), 100)?;
-    desk.gives(&rt, b"\x03\x0a\x04", 80, b"\n          ", 1)?;
-    desk.gives(&rt, b"\x01\x0aabcdefghij", 80, b"abcdefghij", 0)
+    desk.gives(b"\x03\x0a\x04", 80, b"\n          ", 1)?;
+    desk.gives(b"\x01\x0aabcdefghij", 80, b"abcdefghij", 0)
 }
 
 // An encoding of 65,536 bytes is a document, and one of 65,537 is none.
@@ -49,8 +49,8 @@ fn longest_encoding(rt: HostRuntime) -> Result<(), Fail> {
     let mut desk = Desk::new(heap, 100)?;
     let spelled = sample::groups(heap, 65_535)?;
     assert_eq!(rt; spelled.len(), 65_536);
-    desk.gives(&rt, spelled.as_slice(), 80, b"", 0)?;
+    desk.gives(spelled.as_slice(), 80, b"", 0)?;
     let spelled = sample::groups(heap, 65_536)?;
     assert_eq!(rt; spelled.len(), 65_537);
-    desk.refuses(&rt, spelled.as_slice(), 80, 1)
+    desk.refuses(spelled.as_slice(), 80, 1)
 }

@@ -24,7 +24,7 @@ fn call_at_each_width(rt: HostRuntime) -> Result<(), Fail> {
         (10, BROKEN, 8),
     ];
     for (width, layout, lines) in cases {
-        desk.gives(&rt, CALL, width, layout.as_bytes(), lines)?;
+        desk.gives(CALL, width, layout.as_bytes(), lines)?;
     }
     Ok(())
 }
@@ -33,8 +33,8 @@ fn call_at_each_width(rt: HostRuntime) -> Result<(), Fail> {
 #[test]
 fn looks_behind_a_group(rt: HostRuntime) -> Result<(), Fail> {
     let mut desk = Desk::new(rt.alloc(), 100)?;
-    desk.gives(&rt, BEHIND, 8, b"aaaa\nbcccc", 1)?;
-    desk.gives(&rt, BEHIND, 10, b"aaaa bcccc", 0)
+    desk.gives(BEHIND, 8, b"aaaa\nbcccc", 1)?;
+    desk.gives(BEHIND, 10, b"aaaa bcccc", 0)
 }
 
 // The nodes of a cat of "ab" and a group of a line, each before its parts, and where each ends.
