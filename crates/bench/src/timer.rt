@@ -1,50 +1,51 @@
 // A watch with a clock: of each stage the least time that any run took.
 use layout::watch::{Stage, Watch};
-use std::rt::Clock;
+use std::time::{Duration, Instant};
 
 #[derive(Drop)]
 pub struct Timer<'a> {
     rt: &'a HostRuntime,
-    last: u64,
-    pub reading: u64,
-    pub searching: u64,
-    pub writing: u64,
+    // When the stage began, where the clock tells.
+    began: Option<Instant>,
+    pub reading: Option<Duration>,
+    pub searching: Option<Duration>,
+    pub writing: Option<Duration>,
 }
 
-// The nanoseconds of a clock, or 0 where it tells none.
-fn nanos(rt: &HostRuntime) -> u64 {
-    match rt.monotonic() {
-        Ok(d) => u64::try_from(d.as_nanos()).unwrap_or(u64::MAX),
-        Err(_) => 0,
-    }
+// The lesser of the times that were taken.
+fn lesser(one: Option<Duration>, other: Option<Duration>) -> Option<Duration> {
+    one.into_iter().chain(other).min()
 }
 
 impl Timer<'_> {
+    // Nothing measured yet.
     pub fn new(rt: &HostRuntime) -> Timer<'_> {
         Timer {
             rt,
-            last: 0,
-            reading: u64::MAX,
-            searching: u64::MAX,
-            writing: u64::MAX,
+            began: None,
+            reading: None,
+            searching: None,
+            writing: None,
         }
     }
 
     // One more run begins.
     pub fn begin(&mut self) {
-        self.last = nanos(self.rt);
+        self.began = Instant::now(self.rt).ok();
     }
 }
 
 impl Watch for Timer<'_> {
     fn ended(&mut self, stage: Stage) {
-        let now = nanos(self.rt);
-        let taken = now.saturating_sub(self.last);
+        let now = Instant::now(self.rt).ok();
+        let taken = now
+            .zip(self.began)
+            .map(|(now, began)| now.duration_since(began));
         match stage {
-            Stage::Reading => self.reading = self.reading.min(taken),
-            Stage::Searching => self.searching = self.searching.min(taken),
-            Stage::Writing => self.writing = self.writing.min(taken),
+            Stage::Reading => self.reading = lesser(self.reading, taken),
+            Stage::Searching => self.searching = lesser(self.searching, taken),
+            Stage::Writing => self.writing = lesser(self.writing, taken),
         }
-        self.last = now;
+        self.began = now;
     }
 }

@@ -1,11 +1,12 @@
 -- What follows for a call from the check of its source and from its encoding. Assumes nothing.
-use Rattle.std.proofs.Common.{◌≡◌, ℕ, suc, ◌<◌, true, false, List, [], ◌∷◌, length, Some, None, Ok, Err, Option, sym, refl, ap, ◌∙◌, subst, arith}
+use Rattle.std.proofs.Common.{◌≡◌, ℕ, suc, ◌<◌, true, false, List, [], ◌∷◌, length, Some, None, Err, Result, sym, refl, ap, ◌∙◌, subst, arith}
 use Rattle.doc.specs.Laws.{encode}
 use Rattle.doc.proofs.Encoded.{encoded as read_back}
 use Rattle.doc.proofs.Parsing.{whole_long}
-use Rattle.layout.specs.Entry.{refusal, SetSays}
-use Rattle.layout.specs.declared.reply.Reply.{Reply}
-use Rattle.layout.specs.declared.reply.Reply.TheVariants.{Refused}
+use Rattle.layout.specs.Entry.{refusal, LaysOut}
+use Rattle.layout.specs.declared.laid.Laid.{Laid}
+use Rattle.layout.specs.declared.refusal.Refusal.{Refusal}
+use Rattle.layout.specs.declared.refusal.Refusal.TheVariants.{NotDocument}
 use Rattle.layout.proofs.Answering.{best_is, no_document, says_refused}
 use Rattle.calls.specs.Tokens.{Placed, tokens}
 use Rattle.calls.specs.Values.{Values, unambiguous, ReadsAs, bare, value_doc}
@@ -13,11 +14,10 @@ use Rattle.calls.specs.Parsing.{Fault, Parsed, faulty, read, then_parsed, last, 
 use Rattle.calls.specs.Machine.{machine, a_value, verdict}
 use Rattle.calls.specs.Emitting.{emit}
 use Rattle.calls.specs.Checking.{fault_of, Tells}
-use Rattle.calls.specs.Calling.{CallSays, LaysOutValue}
-use Rattle.calls.specs.declared.call.CallError.TheVariants.{Faulty}
-use Rattle.calls.specs.declared.reader.Fault as code
+use Rattle.calls.specs.Calling.{LaidOut, CallSays, LaysOutValue}
+use Rattle.calls.specs.declared.error.CallError.{CallError}
+use Rattle.calls.specs.declared.error.CallError.TheVariants.{Ambiguous, Faulty, NoMemory, Refused}
 use Rattle.calls.specs.declared.rule.Rule.{Rule}
-use Rattle.std.specs.Option.{option_map}
 use Rattle.calls.proofs.Sound.{parse_sound}
 use Rattle.calls.proofs.ReadBack.{parse_complete}
 use Rattle.calls.proofs.Stacked.{machine_tells}
@@ -63,29 +63,32 @@ pub encoded : (rs : List Rule) (source : List ℕ) (v : Values) → unambiguous 
 encoded rs source v u r = ap (emit rs [] false) r.same ∙ emits_value rs v u r.formed r.one
 
 -- an encoding that is too long is refused as no document
-pub long_refused : (bs : List ℕ) (w : ℕ) (out exit : List ℕ) → 65536 < length bs → exit ≡ out → SetSays bs w out (refusal bs w (length out)) (Refused 1) exit
-long_refused bs w out exit long e = says_refused bs w out exit _ 0 (Refused 1) (no_document bs w (length out) (whole_long bs long)) refl e
+pub long_refused : (bs : List ℕ) (w : ℕ) (out exit : List ℕ) → 65536 < length bs → exit ≡ out → LaysOut bs w out (refusal bs w (length out)) (Err NotDocument) exit
+long_refused bs w out exit long e = says_refused bs w out exit _ NotDocument (no_document bs w (length out) (whole_long bs long)) e
 
-module _ (rs : List Rule) (source : List ℕ) (w : ℕ) (out exit : List ℕ) (u : unambiguous rs ≡ true) (found : Option code.Fault) (tells : Tells rs source found) where
-  pub faulty_answer : (f : code.Fault) → found ≡ Some f → exit ≡ out → CallSays rs source w out (Err (Faulty f)) exit
-  faulty_answer f is e =
-      let p = bad rs source (fault_of f) (tells ∙ ap (option_map fault_of) is) in
+module _ (rs : List Rule) (source : List ℕ) (w : ℕ) (out exit : List ℕ) (u : unambiguous rs ≡ true) where
+  pub faulty_answer : (z : CallError) → Tells rs source (Err z) → exit ≡ out → CallSays rs source w out (Err z) exit
+  faulty_answer Ambiguous tells e = absurd tells
+  faulty_answer (Refused r) tells e = absurd tells
+  faulty_answer (Faulty f) tells e =
+      let p = bad rs source (fault_of f) tells in
       (u, p, no_value_there rs source (fault_of f) u p, e)
+  faulty_answer NoMemory tells e = e
 
-  module _ (is : found ≡ None) where
+  module _ (tells : machine rs (length source) [] a_value (tokens rs 0 source) ≡ None) where
     value_there : (v : Values) × ReadsAs rs source v
-    value_there = good rs source (tells ∙ ap (option_map fault_of) is)
+    value_there = good rs source tells
 
     bytes_are : emit rs [] false (bare (tokens rs 0 source)) ≡ encode (value_doc value_there.0)
     bytes_are = encoded rs source value_there.0 u value_there.1
 
-    pub long_answer : 65536 < length (emit rs [] false (bare (tokens rs 0 source))) → exit ≡ out → CallSays rs source w out (Ok (Refused 1)) exit
+    pub long_answer : 65536 < length (emit rs [] false (bare (tokens rs 0 source))) → exit ≡ out → CallSays rs source w out (Err (Refused NotDocument)) exit
     long_answer long e =
         (u, record { what = value_there.0; reads = value_there.1; says = long_refused _ w out exit (subst (λ bs. 65536 < length bs) bytes_are long) e })
 
-    pub laid_answer : (bs : List ℕ) (r : Reply) → bs ≡ emit rs [] false (bare (tokens rs 0 source)) → SetSays bs w out (refusal bs w (length out)) r exit → CallSays rs source w out (Ok r) exit
+    pub laid_answer : (bs : List ℕ) (r : Result Laid Refusal) → bs ≡ emit rs [] false (bare (tokens rs 0 source)) → LaysOut bs w out (refusal bs w (length out)) r exit → (unambiguous rs ≡ true) × LaidOut rs source w out r exit
     laid_answer bs r e says =
-        (u, record { what = value_there.0; reads = value_there.1; says = subst (λ x. SetSays x w out (refusal x w (length out)) r exit) (e ∙ bytes_are) says })
+        (u, record { what = value_there.0; reads = value_there.1; says = subst (λ x. LaysOut x w out (refusal x w (length out)) r exit) (e ∙ bytes_are) says })
 
 -- a value's document is read back from its encoding
 pub lays_out_value : LaysOutValue

@@ -2,7 +2,6 @@ pub mod Called
 pub mod Emitted
 pub mod Encodable
 pub mod ReadBack
-pub mod Rules
 pub mod Scanning
 pub mod Sound
 pub mod Stacked

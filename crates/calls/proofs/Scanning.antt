@@ -1,31 +1,13 @@
 -- Tokens of plain lists: blanks, marks and words. Assumes nothing.
-use Rattle.std.proofs.Common.{◌≡◌, ℕ, suc, ◌+◌, ◌-◌, ◌<◌, ◌≤◌, Bool, true, false, cond, not, ◌||◌, eqb, List, [], ◌∷◌, ◌++◌, length, get_or, take, drop, sym, refl, ap, ◌∙◌, inl, inr, arith}
-use Rattle.std.proofs.lemmas.List.{at_drop_more, at_drop_all, drop_more, drop_all, drop-drop, get_or-drop, take-append-drop, take_more, length-take-le, length-drop}
-use Rattle.std.proofs.lemmas.Bool.{and_parts, and_from, or_left, cases_lt, cond-true, cond-false, not-true, not_from_false, both_ways}
-use Rattle.calls.specs.Tokens.{word, mark, place, lengthen, blank, marks, in_word, word_next, tokens}
-use Rattle.calls.specs.Lexing.{own, cut, WordEnds}
+use Rattle.std.proofs.Common.{◌≡◌, ℕ, suc, ◌+◌, ◌-◌, ◌<◌, ◌≤◌, Bool, true, false, cond, not, List, [], ◌∷◌, ◌++◌, length, get_or, take, drop, sym, refl, ap, ◌∙◌, arith, length-append}
+use Rattle.std.proofs.lemmas.List.{take-append-drop, length-drop}
+use Rattle.std.proofs.Math.Numerals.{one-add}
+use Rattle.std.proofs.lemmas.List.Folds.{length-prefix_len}
+use Rattle.std.proofs.lemmas.Bool.{and_parts, and_from, cond-true, cond-false, not-true, not_from_false}
+use Rattle.calls.specs.Tokens.{word, mark, Placed, place, lengthen, blank, marks, in_word, word_next, tokens}
+use Rattle.std.specs.List.{prefix_len}
 use Rattle.calls.specs.Values.{all_in_word, empty}
 use Rattle.calls.specs.declared.rule.Rule.{Rule}
-
-or_three : (a b x m : Bool) → (a || (b || (x || m))) ≡ ((a || (b || x)) || m)
-or_three true b x m = refl
-or_three false true x m = refl
-or_three false false x m = refl
-
-module _ (rs : List Rule) (c : ℕ) (i : ℕ) (d : Rule) (h : i < length rs) where
-  pub marks_more : marks (drop i rs) c ≡ (own (get_or rs i d) c || marks (drop (i + 1) rs) c)
-  unfolding marks
-  marks_more = at_drop_more (λ xs. marks xs c) rs i d h ∙ or_three (eqb c (get_or rs i d).open) (eqb c (get_or rs i d).close) (eqb c (get_or rs i d).separator) (marks (drop (i + 1) rs) c)
-
-  pub marks_here : own (get_or rs i d) c ≡ true → marks (drop i rs) c ≡ true
-  marks_here e = marks_more ∙ or_left _ _ e
-
-  pub marks_step : own (get_or rs i d) c ≡ false → marks (drop (i + 1) rs) c ≡ marks (drop i rs) c
-  marks_step e = sym (marks_more ∙ ap (λ b. b || marks (drop (i + 1) rs) c) e)
-
-pub marks_all : (rs : List Rule) (c i : ℕ) → length rs ≤ i → marks (drop i rs) c ≡ false
-unfolding marks
-marks_all rs c i h = at_drop_all (λ xs. marks xs c) rs i h
 
 third : {A : Type 0} (a b : Bool) (x y z : A) → a ≡ false → b ≡ false → cond a x (cond b y z) ≡ z
 third a b x y z e f = cond-false a x (cond b y z) e ∙ cond-false b y z f
@@ -70,72 +52,119 @@ not_empty : (w : List ℕ) → 0 < length w → empty w ≡ false
 not_empty [] h = absurd (omega arith)
 not_empty (c ∷ cs) h = refl
 
-all_push : (rs : List Rule) (w : List ℕ) (c : ℕ) → all_in_word rs w ≡ true → in_word rs c ≡ true → all_in_word rs (w ++ c ∷ []) ≡ true
-all_push rs [] c e f = and_from (in_word rs c) true f refl
-all_push rs (b ∷ bs) c e f =
-    let p = and_parts (in_word rs b) (all_in_word rs bs) e in
-    and_from (in_word rs b) (all_in_word rs (bs ++ c ∷ [])) p.0 (all_push rs bs c p.1 f)
+-- the tokens of what is left of a source, where the source ends at `end`
+abbrev pub left_at : List Rule → (end : ℕ) → (rest : List ℕ) → List Placed
+left_at rs end rest = tokens rs (end - length rest) rest
 
-module _ (rs : List Rule) (s : List ℕ) where
-  -- a blank at a position is passed
-  pub skip : (at : ℕ) → at < length s → blank (get_or s at 0) ≡ true → tokens rs at (drop at s) ≡ tokens rs (at + 1) (drop (at + 1) s)
-  skip at h e =
-      ap (tokens rs at) (drop_more s at 0 h)
-      ∙ blank_skipped rs at _ _ e
-      ∙ ap (λ n. tokens rs n (drop (at + 1) s)) (omega arith)
+-- one byte of those in front that pass a test, or the first that does not
+module _ (test : ℕ → Bool) (x : ℕ) (xs : List ℕ) (n : ℕ) where
+  further : drop (1 + n) (x ∷ xs) ≡ drop n xs
+  further = ap (λ m. drop m (x ∷ xs)) (one-add n)
 
-  -- there are no tokens past the end
-  pub none_left : (at : ℕ) → length s ≤ at → tokens rs at (drop at s) ≡ []
+  stop_by : (c : ℕ) (cs : List ℕ) (b : Bool) → test x ≡ b → (drop n xs ≡ c ∷ cs → test c ≡ false) → drop (cond b (1 + n) 0) (x ∷ xs) ≡ c ∷ cs → test c ≡ false
+  stop_by c cs true e k is = k (sym further ∙ is)
+  stop_by c cs false e k is = sym (ap (λ l. test (get_or l 0 0)) is) ∙ e
+
+-- the byte behind those in front that pass a test does not pass it
+pub stops_at : (test : ℕ → Bool) (xs : List ℕ) (c : ℕ) (cs : List ℕ) → drop (prefix_len test xs) xs ≡ c ∷ cs → test c ≡ false
+stops_at test [] c cs is = let z = ap length is in absurd (omega arith)
+stops_at test (x ∷ xs) c cs is = stop_by test x xs (prefix_len test xs) c cs (test x) refl (stops_at test xs c cs) is
+
+module _ (rs : List Rule) (x : ℕ) (xs : List ℕ) (n : ℕ) where
+  blank_by : (end : ℕ) → length (x ∷ xs) ≤ end → (b : Bool) → blank x ≡ b → left_at rs end xs ≡ left_at rs end (drop n xs) → left_at rs end (x ∷ xs) ≡ left_at rs end (drop (cond b (1 + n) 0) (x ∷ xs))
+  blank_by end h true e k =
+      blank_skipped rs (end - length (x ∷ xs)) x xs e
+      ∙ ap (λ p. tokens rs p xs) (omega arith)
+      ∙ k
+      ∙ ap (left_at rs end) (sym (further blank x xs n))
+  blank_by end h false e k = refl
+
+  all_by : (b : Bool) → in_word rs x ≡ b → all_in_word rs (take n xs) ≡ true → all_in_word rs (take (cond b (1 + n) 0) (x ∷ xs)) ≡ true
+  all_by true e k = ap (λ m. all_in_word rs (take m (x ∷ xs))) (one-add n) ∙ and_from (in_word rs x) _ e k
+  all_by false e k = refl
+
+  next_by : (b : Bool) → in_word rs x ≡ b → word_next rs (drop n xs) ≡ false → word_next rs (drop (cond b (1 + n) 0) (x ∷ xs)) ≡ false
+  next_by true e k = ap (word_next rs) (further (in_word rs) x xs n) ∙ k
+  next_by false e k = e
+
+-- blanks in front are passed
+pub blanks_passed : (rs : List Rule) (end : ℕ) (xs : List ℕ) → length xs ≤ end → left_at rs end xs ≡ left_at rs end (drop (prefix_len blank xs) xs)
+blanks_passed rs end [] h = refl
+blanks_passed rs end (x ∷ xs) h = blank_by rs x xs (prefix_len blank xs) end h (blank x) refl (blanks_passed rs end xs (omega arith))
+
+-- the bytes of a word in front
+pub word_made : (rs : List Rule) (xs : List ℕ) → all_in_word rs (take (prefix_len (in_word rs) xs) xs) ≡ true
+word_made rs [] = refl
+word_made rs (x ∷ xs) = all_by rs x xs (prefix_len (in_word rs) xs) (in_word rs x) refl (word_made rs xs)
+
+-- no byte of a word stands behind them
+word_ended : (rs : List Rule) (xs : List ℕ) → word_next rs (drop (prefix_len (in_word rs) xs) xs) ≡ false
+word_ended rs [] = refl
+word_ended rs (x ∷ xs) = next_by rs x xs (prefix_len (in_word rs) xs) (in_word rs x) refl (word_ended rs xs)
+
+-- what is read where no blank stands in front
+module _ (rs : List Rule) (end c : ℕ) (cs : List ℕ) (h : length (c ∷ cs) ≤ end) (e : blank c ≡ false) where
+  pub mark_read : marks rs c ≡ true → left_at rs end (c ∷ cs) ≡ place (end - length (c ∷ cs)) (mark c) ∷ left_at rs end cs
+  mark_read f =
+      mark_first rs (end - length (c ∷ cs)) c cs e f
+      ∙ ap (λ p. place (end - length (c ∷ cs)) (mark c) ∷ tokens rs p cs) (omega arith)
+
+  module _ (f : marks rs c ≡ false) where
+    word_length : length (take (prefix_len (in_word rs) (c ∷ cs)) (c ∷ cs)) ≡ 1 + prefix_len (in_word rs) cs
+    word_length =
+        length-prefix_len (in_word rs) (c ∷ cs)
+        ∙ ap (λ b. cond b (1 + prefix_len (in_word rs) cs) 0) (and_from (not (blank c)) (not (marks rs c)) (not_from_false _ e) (not_from_false _ f))
+
+    pub word_not_empty : empty (take (prefix_len (in_word rs) (c ∷ cs)) (c ∷ cs)) ≡ false
+    word_not_empty = not_empty _ (omega (arith, word_length))
+
+    pub word_read : left_at rs end (c ∷ cs) ≡ place (end - length (c ∷ cs)) (word (take (prefix_len (in_word rs) (c ∷ cs)) (c ∷ cs))) ∷ left_at rs end (drop (prefix_len (in_word rs) (c ∷ cs)) (c ∷ cs))
+    word_read =
+        let n = prefix_len (in_word rs) (c ∷ cs) in
+        let p : ℕ = end - length (c ∷ cs) in
+        let w = take n (c ∷ cs) in
+        let rest = drop n (c ∷ cs) in
+        let all : length w + length rest ≡ length (c ∷ cs) = sym (length-append w rest) ∙ ap length (take-append-drop n (c ∷ cs)) in
+        ap (tokens rs p) (sym (take-append-drop n (c ∷ cs)))
+        ∙ word_run rs p w rest (omega (arith, word_length)) (word_made rs (c ∷ cs)) (word_ended rs (c ∷ cs))
+        ∙ ap (λ q. place p (word w) ∷ tokens rs q rest) (omega (arith, all, h))
+
+-- what is read of what is left, by its part behind the blanks in front
+module _ (rs : List Rule) (end : ℕ) (xs : List ℕ) (n : ℕ) (rest : List ℕ) (h : length xs ≤ end) (is : n ≡ prefix_len blank xs) (behind : rest ≡ drop n xs) where
+  passed : left_at rs end xs ≡ left_at rs end rest
+  passed = blanks_passed rs end xs h ∙ ap (λ m. left_at rs end (drop m xs)) (sym is) ∙ ap (left_at rs end) (sym behind)
+
+  short : length rest ≤ end
+  short = let e = ap length behind in omega (arith, e, length-drop n xs)
+
+  pub none_next : rest ≡ [] → left_at rs end xs ≡ []
   unfolding tokens
-  none_left at h = ap (tokens rs at) (drop_all at s h)
+  none_next e = passed ∙ ap (left_at rs end) e
 
-  pub mark_at : (at : ℕ) → at < length s → blank (get_or s at 0) ≡ false → marks rs (get_or s at 0) ≡ true → tokens rs at (drop at s) ≡ place at (mark (get_or s at 0)) ∷ tokens rs (at + 1) (drop (at + 1) s)
-  mark_at at h e f =
-      ap (tokens rs at) (drop_more s at 0 h)
-      ∙ mark_first rs at _ _ e f
-      ∙ ap (λ n. place at (mark (get_or s at 0)) ∷ tokens rs n (drop (at + 1) s)) (omega arith)
+  module _ (c : ℕ) (cs : List ℕ) (e : rest ≡ c ∷ cs) where
+    whole : length (c ∷ cs) ≤ end
+    whole = let l = ap length e in omega (arith, l, short)
 
-  -- one byte more
-  cut_more : (start end : ℕ) → start ≤ end → end < length s → cut s start (end + 1) ≡ cut s start end ++ get_or s end 0 ∷ []
-  cut_more start end h l =
-      let n : ℕ = end - start in
-      let within : n < length (drop start s) = simp length-drop (omega arith) in
-      ap (λ m. take m (drop start s)) (omega arith)
-      ∙ take_more (drop start s) n 0 within
-      ∙ ap (λ b. take n (drop start s) ++ b ∷ []) (get_or-drop start s n 0 ∙ ap (λ m. get_or s m 0) (omega arith))
+    not_blank : blank c ≡ false
+    not_blank = stops_at blank xs c cs (ap (λ m. drop m xs) (sym is) ∙ sym behind ∙ e)
 
-  pub word_more : (start end : ℕ) → start ≤ end → end < length s → all_in_word rs (cut s start end) ≡ true → in_word rs (get_or s end 0) ≡ true → all_in_word rs (cut s start (end + 1)) ≡ true
-  word_more start end h l e f = ap (all_in_word rs) (cut_more start end h l) ∙ all_push rs (cut s start end) _ e f
+    pub mark_next : marks rs c ≡ true → left_at rs end xs ≡ place (end - length rest) (mark c) ∷ left_at rs end cs
+    mark_next f =
+        passed ∙ ap (left_at rs end) e ∙ mark_read rs end c cs whole not_blank f ∙ ap (λ l. place (end - length l) (mark c) ∷ left_at rs end cs) (sym e)
 
-  pub word_next_at : (at : ℕ) → at < length s → word_next rs (drop at s) ≡ in_word rs (get_or s at 0)
-  word_next_at at h = ap (word_next rs) (drop_more s at 0 h)
+    module _ (m : ℕ) (w others : List ℕ) (f : marks rs c ≡ false) (len : m ≡ prefix_len (in_word rs) rest) (front : w ≡ take m rest) (back : others ≡ drop m rest) where
+      pub word_next_is : left_at rs end xs ≡ place (end - length rest) (word w) ∷ left_at rs end others
+      word_next_is =
+          passed
+          ∙ ap (left_at rs end) e
+          ∙ word_read rs end c cs whole not_blank f
+          ∙ ap (λ l. place (end - length l) (word (take (prefix_len (in_word rs) l) l)) ∷ left_at rs end (drop (prefix_len (in_word rs) l) l)) (sym e)
+          ∙ ap (λ k. place (end - length rest) (word (take k rest)) ∷ left_at rs end (drop k rest)) (sym len)
+          ∙ ap (λ v. place (end - length rest) (word v) ∷ left_at rs end (drop m rest)) (sym front)
+          ∙ ap (λ v. place (end - length rest) (word w) ∷ left_at rs end v) (sym back)
 
-  pub word_next_past : (at : ℕ) → length s ≤ at → word_next rs (drop at s) ≡ false
-  word_next_past at h = ap (word_next rs) (drop_all at s h)
+      pub word_is : w ≡ take (prefix_len (in_word rs) (c ∷ cs)) (c ∷ cs)
+      word_is = front ∙ ap (λ k. take k rest) len ∙ ap (λ l. take (prefix_len (in_word rs) l) l) e
 
--- a word that begins at a position, where there is neither a blank nor a mark
-module _ (rs : List Rule) (s : List ℕ) (start end : ℕ) (h : start < length s) (e : blank (get_or s start 0) ≡ false) (f : marks rs (get_or s start 0) ≡ false) (w : WordEnds rs s start end) where
-  pub word_some : start < end
-  word_some =
-      let begins : word_next rs (drop start s) ≡ true =
-      word_next_at rs s start h ∙ and_from (not (blank (get_or s start 0))) (not (marks rs (get_or s start 0))) (not_from_false _ e) (not_from_false _ f) in
-      elim (cases_lt start end) [
-        | inl l ↦ l
-        | inr l ↦ let same : start ≡ end = omega (arith, w.after) in absurd (both_ways (word_next rs (drop start s)) (ap (λ n. word_next rs (drop n s)) same ∙ w.stops) begins)
-      ]
-
-  word_length : length (cut s start end) ≡ end - start
-  word_length = length-take-le (end - start) (drop start s) (simp length-drop (omega (arith, w.within)))
-
-  pub word_not_empty : empty (cut s start end) ≡ false
-  word_not_empty = not_empty (cut s start end) (omega (arith, word_length, word_some))
-
-  pub word_at : tokens rs start (drop start s) ≡ place start (word (cut s start end)) ∷ tokens rs end (drop end s)
-  word_at =
-      let n : ℕ = end - start in
-      let rest : drop n (drop start s) ≡ drop end s = drop-drop n start s ∙ ap (λ m. drop m s) (omega (arith, word_some)) in
-      let ends : start + length (cut s start end) ≡ end = omega (arith, word_length, word_some) in
-      ap (tokens rs start) (sym (take-append-drop n (drop start s)))
-      ∙ word_run rs start (cut s start end) (drop n (drop start s)) (omega (arith, word_length, word_some)) w.made (ap (word_next rs) rest ∙ w.stops)
-      ∙ ap (λ m. place start (word (cut s start end)) ∷ tokens rs m (drop n (drop start s))) ends
-      ∙ ap (λ xs. place start (word (cut s start end)) ∷ tokens rs end xs) rest
+      pub word_formed : (empty w ≡ false) × (all_in_word rs w ≡ true)
+      word_formed = (ap empty word_is ∙ word_not_empty rs end c cs whole not_blank f, ap (all_in_word rs) word_is ∙ word_made rs (c ∷ cs))

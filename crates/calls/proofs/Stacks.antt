@@ -1,43 +1,18 @@
 -- Stacks of open brackets, and what one token makes of a check. Assumes nothing.
-use Rattle.std.proofs.Common.{◌≡◌, ℕ, ◌+◌, ◌-◌, ◌<◌, ◌≤◌, true, false, cond, ◌||◌, eqb, List, [], ◌∷◌, ◌++◌, length, get_or, take, drop, Some, None, Option, sym, refl, ap, ◌∙◌, arith, Bor}
+use Rattle.std.proofs.Common.{◌≡◌, ℕ, ◌+◌, ◌-◌, ◌<◌, List, [], ◌∷◌, ◌++◌, length, get_or, take, Some, None, Err, Option, sym, refl, ap, ◌∙◌, arith, Bor}
+use Rattle.std.specs.Prelude.{Ok, Err, Result, IsErrAnd}
 use Rattle.std.specs.Option.{option_map}
 use Rattle.std.specs.Slice.{IsGetResult}
-use Rattle.std.proofs.lemmas.List.{at_drop_more, at_drop_all, take_all, take_more, nil_from_length}
-use Rattle.std.proofs.lemmas.Bool.{cond-true, cond-false, or_left}
-use Rattle.calls.specs.Tokens.{tokens}
-use Rattle.calls.specs.Parsing.{opened_by, closes}
+use Rattle.std.proofs.lemmas.List.{take_all, take_more, nil_from_length}
 use Rattle.calls.specs.Machine as machine
-use Rattle.calls.specs.Lexing.{Lexed, token_of}
-use Rattle.calls.specs.Checking.{frame_of, stacked, frames_of, step_of, Innermost}
+use Rattle.calls.specs.Lexing.{tokens_left, token_of, Lexed}
+use Rattle.calls.specs.Checking.{frame_of, stacked, frames_of, Innermost, StepSays, Told}
+use Rattle.calls.specs.declared.error.CallError.{CallError}
+use Rattle.calls.specs.declared.error.CallError.TheVariants.{Ambiguous, Faulty, NoMemory, Refused}
 use Rattle.calls.specs.declared.lexer.Lexeme.{Lexeme}
+use Rattle.calls.specs.declared.lexer.Lexemes.{Lexemes}
 use Rattle.calls.specs.declared.reader.Frame.{Frame}
-use Rattle.calls.specs.declared.reader.Step.{Step}
 use Rattle.calls.specs.declared.rule.Rule.{Rule}
-
-module _ (rs : List Rule) (c : ℕ) (i : ℕ) (d : Rule) (h : i < length rs) where
-  closes_more : closes (drop i rs) c ≡ (eqb c (get_or rs i d).close || closes (drop (i + 1) rs) c)
-  closes_more = at_drop_more (λ xs. closes xs c) rs i d h
-
-  pub closes_here : eqb c (get_or rs i d).close ≡ true → closes (drop i rs) c ≡ true
-  closes_here e = closes_more ∙ or_left _ _ e
-
-  pub closes_step : eqb c (get_or rs i d).close ≡ false → closes (drop (i + 1) rs) c ≡ closes (drop i rs) c
-  closes_step e = sym (closes_more ∙ ap (λ b. b || closes (drop (i + 1) rs) c) e)
-
-  opened_more : opened_by (drop i rs) c ≡ cond (eqb c (get_or rs i d).open) (Some (get_or rs i d)) (opened_by (drop (i + 1) rs) c)
-  opened_more = at_drop_more (λ xs. opened_by xs c) rs i d h
-
-  pub opened_here : eqb c (get_or rs i d).open ≡ true → opened_by (drop i rs) c ≡ Some (get_or rs i d)
-  opened_here e = opened_more ∙ cond-true _ _ _ e
-
-  pub opened_step : eqb c (get_or rs i d).open ≡ false → opened_by (drop (i + 1) rs) c ≡ opened_by (drop i rs) c
-  opened_step e = sym (opened_more ∙ cond-false _ _ _ e)
-
-pub closes_all : (rs : List Rule) (c i : ℕ) → length rs ≤ i → closes (drop i rs) c ≡ false
-closes_all rs c i h = at_drop_all (λ xs. closes xs c) rs i h
-
-pub opened_all : (rs : List Rule) (c i : ℕ) → length rs ≤ i → opened_by (drop i rs) c ≡ None
-opened_all rs c i h = at_drop_all (λ xs. opened_by xs c) rs i h
 
 -- the last bracket is the first
 pub stacked_push : (fs : List Frame) (f : Frame) (under : List machine.Frame) → stacked (fs ++ f ∷ []) under ≡ frame_of f ∷ stacked fs under
@@ -70,19 +45,33 @@ popped_last fs after n len e =
     ap (λ gs. machine.goes gs machine.behind_value)
     (popped_take fs ∙ ap (λ m. frames_of (take (m - 1) fs)) len ∙ ap frames_of (sym e))
 
-pub innermost_last : (fs : List Frame) (r : Option (Bor Frame)) → IsGetResult fs 0 (length fs - 1) r → Innermost fs (option_map (λ x. x.now) r)
-innermost_last fs None i = nil_from_length fs (omega (arith, i.3))
+pub innermost_last : (fs : List Frame) (r : Option (Bor Frame)) → IsGetResult fs 0 (length fs - 1) r → Innermost (frames_of fs) (option_map (λ x. x.now) r)
+innermost_last fs None i = ap frames_of (nil_from_length fs (omega (arith, i.3)))
 innermost_last fs (Some x) i = last_innermost fs x.now i.3.0 (i.3.1 x.now)
 
-module _ (rs : List Rule) (s : List ℕ) (stack : List machine.Frame) (e : machine.Expects) (at : ℕ) where
+module _ (rs : List Rule) (end : ℕ) (stack : List machine.Frame) (e : machine.Expects) (s t : Lexemes) where
   -- after the last token
-  pub machine_ends : tokens rs at (drop at s) ≡ [] → machine.machine rs (length s) stack e (tokens rs at (drop at s)) ≡ machine.at_end (length s) stack e
+  pub machine_ends : tokens_left s ≡ [] → machine.machine rs end stack e (tokens_left s) ≡ machine.at_end end stack e
   unfolding machine.machine
-  machine_ends none = ap (machine.machine rs (length s) stack e) none
+  machine_ends none = ap (machine.machine rs end stack e) none
 
   -- the first token makes a step, and the others go on from there
-  pub machine_steps : (x : Lexeme) (after : List machine.Frame) (q r : Step) → Lexed rs s at x → machine.step rs stack e x.start (token_of s x) ≡ step_of after q → q ≡ r → machine.machine rs (length s) stack e (tokens rs at (drop at s)) ≡ machine.then_go (step_of after r) (λ stack₁ e₁. machine.machine rs (length s) stack₁ e₁ (tokens rs x.end (drop x.end s)))
+  machine_steps : (x : Lexeme) → Lexed s x t → machine.machine rs end stack e (tokens_left s) ≡ machine.then_go (machine.step rs stack e x.at (token_of x.token)) (λ stack₁ e₁. machine.machine rs end stack₁ e₁ (tokens_left t))
   unfolding machine.machine
-  machine_steps x after q r l step is =
-      ap (machine.machine rs (length s) stack e) l.read
-      ∙ ap (λ t. machine.then_go t (λ stack₁ e₁. machine.machine rs (length s) stack₁ e₁ (tokens rs x.end (drop x.end s)))) (step ∙ ap (step_of after) is)
+  machine_steps x l = ap (machine.machine rs end stack e) l.read
+
+  -- a token after which reading goes on
+  pub machine_goes : (x : Lexeme) (after : List machine.Frame) (f : machine.Expects) → Lexed s x t → machine.step rs stack e x.at (token_of x.token) ≡ machine.goes after f → machine.machine rs end stack e (tokens_left s) ≡ machine.machine rs end after f (tokens_left t)
+  machine_goes x after f l step = machine_steps x l ∙ ap (λ u. machine.then_go u (λ stack₁ e₁. machine.machine rs end stack₁ e₁ (tokens_left t))) step
+
+  -- a token after which it does not
+  pub machine_told : (x : Lexeme) (after : List machine.Frame) (z : CallError) → Lexed s x t → StepSays (machine.step rs stack e x.at (token_of x.token)) after (Err z) → Told (machine.machine rs end stack e (tokens_left s)) (Err z)
+  machine_told x after Ambiguous l says = says
+  machine_told x after (Refused r) l says = says
+  machine_told x after (Faulty f) l says = machine_steps x l ∙ ap (λ u. machine.then_go u (λ stack₁ e₁. machine.machine rs end stack₁ e₁ (tokens_left t))) says
+  machine_told x after NoMemory l says = tt
+
+-- the error that a `?` passes on
+pub passed_on : {T E : Type 0} (r : Result T E) (z : E) → IsErrAnd r (λ y. y ≡ z) → r ≡ Err z
+passed_on (Ok x) z e = absurd e
+passed_on (Err y) z e = ap Err e

@@ -1,58 +1,33 @@
 -- What each step of reading tokens answers. Assumes nothing: these are definitions.
-use Rattle.std.specs.Prelude.{◌≡◌, ℕ, ◌+◌, ◌<◌, ◌≤◌, Bool, true, false, not, ◌&&◌, ◌||◌, List, [], ◌∷◌, length, drop, Option, MatchOption, ◌==◌, slice_index, slice_range}
-use Rattle.calls.specs.Tokens.{Token, word, mark, place, blank, marks, word_next, tokens}
+use Rattle.std.specs.Prelude.{◌≡◌, ◌-◌, false, true, List, [], ◌∷◌, length, None, Some, Option}
+use Rattle.calls.specs.Tokens.{Token, word, mark, Placed, place, marks, tokens}
 use Rattle.calls.specs.Values.{all_in_word, empty}
 use Rattle.calls.specs.declared.lexer.Lexeme.{Lexeme}
-use Rattle.calls.specs.declared.lexer.Sign.{Sign}
-use Rattle.calls.specs.declared.lexer.Sign.TheVariants.{Word, Mark}
+use Rattle.calls.specs.declared.lexer.Lexemes.{Lexemes}
+use Rattle.calls.specs.declared.lexer.Token as code
+use Rattle.calls.specs.declared.lexer.Token.TheVariants.{Word, Mark}
 use Rattle.calls.specs.declared.rule.Rule.{Rule}
 
--- two rules are told apart: one step of `fresh`
-abbrev pub apart : Rule → Rule → Bool
-apart q r =
-    not (q.open == r.open) && (not (q.open == r.close) && (not (q.close == r.open) && (not (q.open == r.separator) && (not (q.close == r.separator) && (not (q.separator == r.open) && not (q.separator == r.close))))))
+-- a token
+abbrev pub token_of : code.Token → Token
+token_of (Word w) = word w.now
+token_of (Mark m) = mark m
 
--- a byte is a bracket or the separator of a rule
-abbrev pub own : Rule → ℕ → Bool
-own r c = c == r.open || (c == r.close || c == r.separator)
+-- the tokens that are left, with their positions
+unfoldable pub tokens_left : Lexemes → List Placed
+tokens_left s = tokens s.source.rules.now (length s.source.bytes.now - length s.rest.now) s.rest.now
 
--- from one position to another there are only blanks, and behind them is none
-pub record Skipped (rs : List Rule) (s : List ℕ) (at next : ℕ) : Type 0 where
-  pub after : at ≤ next
-  pub same : tokens rs at (drop at s) ≡ tokens rs next (drop next s)
-  pub stops : next < length s → blank (slice_index s next) ≡ false
+-- a word is not empty and made of words' bytes, and a mark is a byte of the rules
+abbrev pub Formed : List Rule → Token → Type 0
+Formed rs (word w) = (empty w ≡ false) × (all_in_word rs w ≡ true)
+Formed rs (mark m) = marks rs m ≡ true
 
--- the bytes from one position to another
-abbrev pub cut : List ℕ → (start end : ℕ) → List ℕ
-cut s start end = slice_range s start end
+-- the first token that was left, and the others that are left now
+pub record Lexed (s : Lexemes) (x : Lexeme) (t : Lexemes) : Type 0 where
+  pub read : tokens_left s ≡ place x.at (token_of x.token) ∷ tokens_left t
+  pub formed : Formed s.source.rules.now (token_of x.token)
 
--- from one position to another all bytes are those of words, and behind them is none
-pub record WordEnds (rs : List Rule) (s : List ℕ) (start end : ℕ) : Type 0 where
-  pub after : start ≤ end
-  pub within : end ≤ length s
-  pub made : all_in_word rs (cut s start end) ≡ true
-  pub stops : word_next rs (drop end s) ≡ false
-
--- a token by its sign, and by its bytes where it is a word
-abbrev pub signed : Sign → List ℕ → Token
-signed Word w = word w
-signed (Mark m) w = mark m
-
-abbrev pub token_of : List ℕ → Lexeme → Token
-token_of s x = signed x.sign (cut s x.start x.end)
-
--- a word is not empty and made of words' bytes, and a mark is one byte of the rules
-abbrev pub Formed : List Rule → List ℕ → (start end : ℕ) → Sign → Type 0
-Formed rs s start end Word = (empty (cut s start end) ≡ false) × (all_in_word rs (cut s start end) ≡ true)
-Formed rs s start end (Mark m) = (marks rs m ≡ true) × (end ≡ start + 1)
-
--- the first token from a position on, and the others from its end on
-pub record Lexed (rs : List Rule) (s : List ℕ) (at : ℕ) (x : Lexeme) : Type 0 where
-  pub read : tokens rs at (drop at s) ≡ place x.start (token_of s x) ∷ tokens rs x.end (drop x.end s)
-  pub after : at ≤ x.start
-  pub some : x.start < x.end
-  pub within : x.end ≤ length s
-  pub formed : Formed rs s x.start x.end x.sign
-
-abbrev pub Next : List Rule → List ℕ → ℕ → Option Lexeme → Type 0
-Next rs s at r = MatchOption r (tokens rs at (drop at s) ≡ []) (Lexed rs s at)
+-- the next token, or none is left now or later
+abbrev pub GivesLexeme : Lexemes → Option Lexeme → Lexemes → Type 0
+GivesLexeme s None t = (tokens_left s ≡ []) × (tokens_left t ≡ [])
+GivesLexeme s (Some x) t = Lexed s x t

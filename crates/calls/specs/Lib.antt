@@ -7,3 +7,4 @@ pub mod Machine
 pub mod Parsing
 pub mod Tokens
 pub mod Values
+pub mod Words

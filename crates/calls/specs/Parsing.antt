@@ -1,5 +1,6 @@
 -- A reader of tokens that tells what is wrong, and where. Assumes nothing: these are definitions.
-use Rattle.std.specs.Prelude.{◌≡◌, ℕ, zero, suc, Bool, true, false, cond, not, ◌&&◌, ◌||◌, List, [], ◌∷◌, length, Some, None, Option, ◌==◌, nat_eq}
+use Rattle.std.specs.Prelude.{◌≡◌, ℕ, zero, suc, Bool, true, false, cond, not, ◌&&◌, List, [], ◌∷◌, length, Some, None, Option, ◌==◌, nat_eq}
+use Rattle.std.specs.List.{find, list_any}
 use Rattle.calls.specs.Tokens.{Token, word, mark, Placed, tokens}
 use Rattle.calls.specs.Values.{Values, none, plain, list, unambiguous, ReadsAs}
 use Rattle.calls.specs.declared.rule.Rule.{Rule}
@@ -23,13 +24,11 @@ then_parsed (read vs ts) k = k vs ts
 
 -- the first rule whose opening bracket a byte is
 abbrev pub opened_by : List Rule → ℕ → Option Rule
-opened_by [] c = None
-opened_by (r ∷ rs) c = cond (c == r.open) (Some r) (opened_by rs c)
+opened_by rs c = find (λ r. c == r.open) rs
 
 -- a byte is the closing bracket of some rule
 abbrev pub closes : List Rule → ℕ → Bool
-closes [] c = false
-closes (r ∷ rs) c = c == r.close || closes rs c
+closes rs c = list_any (λ r. c == r.close) rs
 
 -- the rule that a token opens
 abbrev pub opening : List Rule → Token → Option Rule

@@ -1,15 +1,19 @@
 -- The tokens of a source. Assumes nothing: these are definitions.
 use Rattle.std.specs.Prelude.{ℕ, suc, Bool, false, cond, not, ◌&&◌, ◌||◌, List, [], ◌∷◌, ◌==◌}
+use Rattle.std.specs.List.{list_any}
 use Rattle.calls.specs.declared.rule.Rule.{Rule}
 
 -- a blank, a tab, the end of a line: these mean nothing, but that a word ends
 abbrev pub blank : ℕ → Bool
 blank c = c == 32 || (c == 9 || (c == 10 || c == 13))
 
+-- a byte is a bracket or the separator of a rule
+abbrev pub own : Rule → ℕ → Bool
+own r c = c == r.open || (c == r.close || c == r.separator)
+
 -- a bracket or a separator of some rule
 unfoldable pub marks : List Rule → ℕ → Bool
-marks [] c = false
-marks (r ∷ rs) c = c == r.open || (c == r.close || (c == r.separator || marks rs c))
+marks rs c = list_any (λ r. own r c) rs
 
 -- any other byte is part of a word
 abbrev pub in_word : List Rule → ℕ → Bool

@@ -1,5 +1,6 @@
 -- Values: words, and lists of values in brackets; their tokens, and their documents. Assumes nothing: these are definitions.
 use Rattle.std.specs.Prelude.{◌≡◌, ℕ, zero, suc, Bool, true, false, cond, not, ◌&&◌, ◌||◌, List, [], ◌∷◌, ◌++◌, length, take, drop, ◌==◌, nat_le}
+use Rattle.std.specs.List.{list_all}
 use Rattle.doc.specs.Doc.{Doc, nil, text, cat, nest, line, group}
 use Rattle.calls.specs.Tokens.{Token, word, mark, Placed, blank, in_word, tokens}
 use Rattle.calls.specs.declared.rule.Rule.{Rule}
@@ -59,12 +60,14 @@ single none = false
 single (plain w vs) = is_none vs
 single (list name r items vs) = is_none vs
 
--- brackets and separators are told apart: no byte opens two rules, opens and closes, or is a bracket and a separator, and none is a blank
+-- two rules are told apart: no byte opens both, opens one and closes the other, or is a bracket of one and the separator of the other
+abbrev pub apart : Rule → Rule → Bool
+apart q r =
+    not (q.open == r.open) && (not (q.open == r.close) && (not (q.close == r.open) && (not (q.open == r.separator) && (not (q.close == r.separator) && (not (q.separator == r.open) && not (q.separator == r.close))))))
+
+-- a rule is told apart from each of some others
 unfoldable pub fresh : List Rule → Rule → Bool
-fresh [] r = true
-fresh (q ∷ rs) r =
-    (not (q.open == r.open) && (not (q.open == r.close) && (not (q.close == r.open) && (not (q.open == r.separator) && (not (q.close == r.separator) && (not (q.separator == r.open) && not (q.separator == r.close)))))))
-    && fresh rs r
+fresh rs r = list_all (λ q. apart q r) rs
 
 -- the brackets and the separator of one rule differ, and none is a blank
 abbrev pub sound_rule : Rule → Bool

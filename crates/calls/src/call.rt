@@ -1,17 +1,8 @@
-// What can be wrong with a call, and the memory for laying one out.
+// The memory for laying out calls.
 use crate::encoder::Encoder;
-use crate::reader::{Fault, Reader};
+use crate::reader::Reader;
 use layout::workspace::Workspace;
 use std::alloc::{AllocError, Global};
-
-#[derive(Clone, Copy)]
-pub enum CallError {
-    // Two rules take one byte for different things, or a blank for a bracket.
-    Ambiguous,
-    Faulty(Fault),
-    // There was no memory for so many open brackets.
-    NoMemory,
-}
 
 #[derive(Drop)]
 pub struct CallRoom {

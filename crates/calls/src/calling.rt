@@ -1,11 +1,13 @@
 // Laying out a source: read as a value, encoded as its document, and laid out in the best way.
+ghost use Rattle.std.specs.Prelude.{◌≤◌, length, IfOk};
 ghost use Rattle.calls.specs.Calling.{CallSays};
 
-use crate::call::{CallError, CallRoom};
+use crate::call::CallRoom;
+use crate::error::CallError;
 use crate::lexer::Source;
 use crate::rule::{Rule, unambiguous};
-use layout::entry::{NOT_DOCUMENT, set};
-use layout::reply::Reply;
+use layout::laid::Laid;
+use layout::refusal::Refusal;
 
 // The best layout of the document of the value that a source is, or what is wrong with it.
 pub fn set_call<'x>(
@@ -14,8 +16,9 @@ pub fn set_call<'x>(
     source: &'x [u8],
     width: u64,
     out: &mut [u8],
-) -> Result<Reply, CallError>
-    ensures { CallSays rules.now source.now width out.old result out.new }
+) -> Result<Laid, CallError>
+    ensures says { CallSays rules.now source.now width out.old result out.new }
+    ensures within { IfOk result (λ laid. laid.length ≤ length out.old) }
 {
     if !unambiguous(rules) {
         return Err(CallError::Ambiguous);
@@ -24,15 +27,10 @@ pub fn set_call<'x>(
         rules,
         bytes: source,
     };
-    let Ok(found) = room.reader.check(&source) else {
-        return Err(CallError::NoMemory);
+    room.reader.check(&source)?;
+    let Ok(()) = room.encoder.encode(&source) else {
+        return Err(CallError::Refused(Refusal::NotDocument));
     };
-    if let Some(fault) = found {
-        return Err(CallError::Faulty(fault));
-    }
-    room.encoder.encode(&source);
-    if room.encoder.full {
-        return Ok(Reply::Refused(NOT_DOCUMENT));
-    }
-    Ok(set(&mut room.room, room.encoder.out.as_slice(), width, out))
+    let encoded = room.encoder.out.as_slice();
+    Ok(room.room.lay_out(encoded, width, out)?)
 }

@@ -1,33 +1,30 @@
 // The encoding as it is made, in memory that is taken once for the longest one.
-ghost use Rattle.std.specs.Prelude.{◌≡◌, ◌≤◌, false, [], vec_len, vec_capacity};
+ghost use Rattle.std.specs.Prelude.{◌≡◌, []};
 
+use doc::nodes::MOST_BYTES;
+use doc::reserved::Reserved;
 use std::alloc::{AllocError, Global};
 
-// An encoding has at most so many bytes.
-pub(crate) const MOST_ENCODED: usize = 65_536;
+// An encoding has more bytes than it may.
+#[derive(Clone, Copy, Debug, PartialEq, Eq)]
+pub(crate) struct TooLong;
 
 #[derive(Drop)]
 pub(crate) struct Encoder {
-    pub(crate) out: Vec<u8>,
-    // The encoding is too long: what is in `out` means nothing any more.
-    pub(crate) full: bool,
-    ghost room: { 65536 ≤ vec_capacity out },
-    ghost short: { vec_len out ≤ 65536 },
+    pub(crate) out: Reserved<u8, MOST_BYTES>,
 }
 
 impl Encoder {
     // Nothing encoded yet, with room for any encoding.
     pub(crate) fn new(heap: Global) -> Result<Encoder, AllocError> {
-        let out = Vec::with_capacity(heap, MOST_ENCODED)?;
-        Ok(Encoder { out, full: false })
+        let out = Reserved::new(heap)?;
+        Ok(Encoder { out })
     }
 
     // Begins an encoding.
     pub(crate) fn begin(&mut self)
-        ensures empty { self.new.out.items ≡ [] }
-        ensures full { self.new.full ≡ false }
+        ensures { self.new.out ≡ [] }
     {
-        self.full = false;
         self.out.clear();
     }
 }

@@ -1,7 +1,7 @@
 // The tokens of a source, one after the other: brackets and separators by the rules, and words of all else.
 ghost use Rattle.std.specs.Prelude.{◌≡◌, ◌≤◌, length};
-ghost use Rattle.calls.specs.Tokens.{marks, in_word};
-ghost use Rattle.calls.specs.Lexing.{Skipped, WordEnds, Next};
+ghost use Rattle.std.specs.List.{prefix_len};
+ghost use Rattle.calls.specs.Tokens.{blank, marks, in_word};
 
 use crate::rule::{Rule, is_blank};
 
@@ -12,32 +12,46 @@ pub(crate) struct Source<'a> {
     pub(crate) bytes: &'a [u8],
 }
 
-// What a token is: a word, or a bracket or separator by its byte.
+// A word by its bytes, or a bracket or separator by its byte.
 #[derive(Clone, Copy)]
-pub(crate) enum Sign {
-    Word,
+pub(crate) enum Token<'a> {
+    Word(&'a [u8]),
     Mark(u8),
 }
 
-// A token, and where it begins and ends.
+// A token, and where it begins.
 #[derive(Clone, Copy)]
-pub(crate) struct Lexeme {
-    pub(crate) sign: Sign,
-    pub(crate) start: usize,
-    pub(crate) end: usize,
+pub(crate) struct Lexeme<'a> {
+    pub(crate) token: Token<'a>,
+    pub(crate) at: usize,
 }
 
-impl Source<'_> {
+// The tokens of a source that are left, by the bytes that are.
+#[derive(Clone, Copy)]
+pub(crate) struct Lexemes<'a> {
+    source: Source<'a>,
+    rest: &'a [u8],
+    ghost within: { length rest.now ≤ length source.bytes.now },
+}
+
+// How many blanks stand in front.
+// `word_len` is this chain with another test: one function that takes the test would be no plainer, as its clause would have to say what a closure computes.
+fn blanks(bytes: &[u8]) -> usize
+    ensures { result ≡ prefix_len blank bytes.now }
+{
+    bytes.iter().take_while(|byte| is_blank(**byte)).count()
+}
+
+impl<'a> Source<'a> {
+    ghost use Rattle.calls.specs.Tokens.{tokens};
+    ghost use Rattle.calls.specs.Lexing.{tokens_left};
+
     // Whether a byte is a bracket or a separator of some rule.
+    #[tactic(auto, unfolding(crate::specs::Tokens::marks))]
     pub(crate) fn is_mark(&self, byte: u8) -> bool
         ensures { result ≡ marks self.now.rules.now byte }
     {
-        for rule in self.rules {
-            if rule.has(byte) {
-                return true;
-            }
-        }
-        false
+        self.rules.iter().any(|rule| rule.has(byte))
     }
 
     // Whether a byte is part of a word.
@@ -47,50 +61,50 @@ impl Source<'_> {
         !is_blank(byte) && !self.is_mark(byte)
     }
 
-    // The first position from one on at which there is no blank.
-    fn past_blanks(&self, at: usize) -> usize
-        ensures { Skipped self.now.rules.now self.now.bytes.now at result }
+    // How many bytes of a word stand in front.
+    fn word_len(&self, bytes: &[u8]) -> usize
+        ensures { result ≡ prefix_len (in_word self.now.rules.now) bytes.now }
     {
-        let mut next = at;
-        while next < self.bytes.len() && is_blank(self.bytes[next]) {
-            next += 1;
-        }
-        next
+        bytes.iter().take_while(|byte| self.in_word(**byte)).count()
     }
 
-    // Where the word ends that begins at a position.
-    fn word_end(&self, start: usize) -> usize
-        requires { start ≤ length self.now.bytes.now }
-        ensures { WordEnds self.now.rules.now self.now.bytes.now start result }
+    // All tokens.
+    pub(crate) fn lexemes(&self) -> Lexemes<'a>
+        ensures { tokens_left result ≡ tokens self.now.rules.now 0 self.now.bytes.now }
     {
-        let mut end = start;
-        while end < self.bytes.len() && self.in_word(self.bytes[end]) {
-            end += 1;
+        Lexemes {
+            source: *self,
+            rest: self.bytes,
         }
-        end
     }
+}
 
-    // The next token from a position on, with where it begins and ends.
-    pub(crate) fn next(&self, at: usize) -> Option<Lexeme>
-        ensures { Next self.now.rules.now self.now.bytes.now at result }
-    {
-        let start = self.past_blanks(at);
-        if start >= self.bytes.len() {
-            return None;
-        }
-        let byte = self.bytes[start];
-        if self.is_mark(byte) {
+impl<'a> Iterator for Lexemes<'a> {
+    ghost use Rattle.std.specs.Iterator.{item_count};
+    ghost use Rattle.calls.specs.Lexing.{tokens_left, GivesLexeme};
+
+    type Item = Lexeme<'a>;
+
+    ghost next_gives = { GivesLexeme };
+
+    ghost remaining = { item_count tokens_left };
+
+    fn next(&mut self) -> Option<Lexeme<'a>> {
+        let (_, rest) = self.rest.split_at(blanks(self.rest));
+        let (byte, behind) = rest.split_first()?;
+        let at = self.source.bytes.len() - rest.len();
+        if self.source.is_mark(*byte) {
+            self.rest = behind;
             return Some(Lexeme {
-                sign: Sign::Mark(byte),
-                start,
-                end: start + 1,
+                token: Token::Mark(*byte),
+                at,
             });
         }
-        let end = self.word_end(start);
+        let (word, others) = rest.split_at(self.source.word_len(rest));
+        self.rest = others;
         Some(Lexeme {
-            sign: Sign::Word,
-            start,
-            end,
+            token: Token::Word(word),
+            at,
         })
     }
 }

@@ -10,23 +10,13 @@ impl Source<'_> {
     pub(crate) fn opened_by(&self, byte: u8) -> Option<Rule>
         ensures { result ≡ opened_by self.now.rules.now byte }
     {
-        for rule in self.rules {
-            if byte == rule.open {
-                return Some(*rule);
-            }
-        }
-        None
+        self.rules.iter().find(|rule| byte == rule.open).copied()
     }
 
     // Whether a byte is the closing bracket of some rule.
     pub(crate) fn closes(&self, byte: u8) -> bool
         ensures { result ≡ closes self.now.rules.now byte }
     {
-        for rule in self.rules {
-            if byte == rule.close {
-                return true;
-            }
-        }
-        false
+        self.rules.iter().any(|rule| byte == rule.close)
     }
 }

@@ -1,39 +1,18 @@
 // The check of a source: what is wrong with it, by its tokens and a stack of open brackets.
-ghost use Rattle.std.specs.Prelude.{◌≡◌, ◌∷◌, IfOk};
-ghost use Rattle.std.specs.Option.{option_map};
+ghost use Rattle.std.specs.Prelude.{◌≡◌, ◌≢◌, ◌∷◌, Err};
+ghost use Rattle.calls.specs.declared.error.CallError.TheVariants.{NoMemory};
 ghost use Rattle.calls.specs.Tokens.{mark};
 ghost use Rattle.calls.specs.Lexing.{token_of};
 ghost use Rattle.calls.specs.Machine.{a_value_or_close, at_end, behind_value, goes, own_close, own_separator, popped, step, step_behind, step_value};
-ghost use Rattle.calls.specs.Checking.{expects_of, fault_at, fault_of, frame_of, frames_of, step_of, Innermost, Tells};
+ghost use Rattle.calls.specs.Checking.{expects_of, frame_of, frames_of, Innermost, StepSays, Told, Tells};
 
-use crate::lexer::{Lexeme, Sign, Source};
+use crate::error::{CallError, FaultKind};
+use crate::lexer::{Lexeme, Source, Token};
 use crate::rule::Rule;
-use std::alloc::{AllocError, Global};
+use std::alloc::Global;
+use std::marker::Model;
 
-// What is wrong with a source, and at which byte.
-#[derive(Clone, Copy)]
-pub enum Fault {
-    ClosesNothing(usize),
-    LeftOpen(usize),
-    NoValue(usize),
-    Behind(usize),
-}
-
-impl Fault {
-    // Where it is.
-    pub fn at(self) -> usize
-        ensures { result ≡ fault_at self }
-    {
-        match self {
-            Fault::ClosesNothing(at) => at,
-            Fault::LeftOpen(at) => at,
-            Fault::NoValue(at) => at,
-            Fault::Behind(at) => at,
-        }
-    }
-}
-
-// A bracket that is open: its rule, and where it stands.
+// A bracket that is open: its rule, and where it stands. The definitions have brackets and expectations of their own, as what a source is must not name the code.
 #[derive(Clone, Copy)]
 struct Frame {
     rule: Rule,
@@ -49,17 +28,20 @@ enum Expects {
     BehindValue,
 }
 
-// What one token makes: what may come behind it, or what is wrong with it.
-#[derive(Clone, Copy)]
-enum Step {
-    Goes(Expects),
-    Stops(Fault),
-}
-
-// The brackets that are open, the innermost one last.
+// The brackets that are open, the innermost one last. A clause sees the list of them, the innermost one first.
 #[derive(Drop)]
 pub(crate) struct Reader {
     stack: Vec<Frame>,
+}
+
+impl Model for Reader {
+    ghost use Rattle.std.specs.Prelude.{List};
+    ghost use Rattle.calls.specs.Machine as machine;
+    ghost use Rattle.calls.specs.Checking.{frames_of};
+
+    ghost Value = { List machine.Frame };
+
+    ghost view = { λ r. frames_of r.stack.items };
 }
 
 impl Reader {
@@ -72,74 +54,71 @@ impl Reader {
 
     // The innermost open bracket.
     fn innermost(&self) -> Option<Frame>
-        ensures { Innermost self.now.stack.items result }
+        ensures { Innermost self.now result }
     {
         self.stack.last().copied()
     }
 
     // Whether a byte closes the innermost open bracket.
     fn own_close(&self, byte: u8) -> bool
-        ensures { result ≡ own_close (frames_of self.now.stack.items) byte }
+        ensures { result ≡ own_close self.now byte }
     {
-        match self.innermost() {
-            Some(frame) => byte == frame.rule.close,
-            None => false,
-        }
+        self.innermost()
+            .is_some_and(|frame| byte == frame.rule.close)
     }
 
     // Whether a byte separates the values in the innermost open bracket.
     fn own_separator(&self, byte: u8) -> bool
-        ensures { result ≡ own_separator (frames_of self.now.stack.items) byte }
+        ensures { result ≡ own_separator self.now byte }
     {
-        match self.innermost() {
-            Some(frame) => byte == frame.rule.separator,
-            None => false,
-        }
+        self.innermost()
+            .is_some_and(|frame| byte == frame.rule.separator)
     }
 
     // A bracket opens.
-    fn push(&mut self, rule: Rule, opened: usize) -> Result<Step, AllocError>
-        ensures { IfOk result (λ x. goes (frame_of (record { rule = rule; opened = opened }) ∷ frames_of self.old.stack.items) a_value_or_close ≡ step_of (frames_of self.new.stack.items) x) }
+    fn push(&mut self, rule: Rule, opened: usize) -> Result<Expects, CallError>
+        ensures { StepSays (goes (frame_of (record { rule = rule; opened = opened }) ∷ self.old) a_value_or_close) self.new result }
     {
         self.stack.push(Frame { rule, opened })?;
-        Ok(Step::Goes(Expects::ValueOrClose))
+        Ok(Expects::ValueOrClose)
     }
 
     // The innermost bracket closes.
-    fn pop(&mut self) -> Step
-        ensures { goes (popped (frames_of self.old.stack.items)) behind_value ≡ step_of (frames_of self.new.stack.items) result }
+    fn pop(&mut self) -> Expects
+        ensures { goes (popped self.old) behind_value ≡ goes self.new (expects_of result) }
     {
         self.stack.pop();
-        Step::Goes(Expects::BehindValue)
+        Expects::BehindValue
     }
 
     // A bracket or separator where a value should begin.
-    fn mark_at_value(&mut self, source: &Source, byte: u8, at: usize) -> Result<Step, AllocError>
-        ensures { IfOk result (λ x. step_value source.now.rules.now (frames_of self.old.stack.items) at (mark byte) ≡ step_of (frames_of self.new.stack.items) x) }
+    fn mark_at_value(&mut self, source: &Source, byte: u8, at: usize) -> Result<Expects, CallError>
+        ensures { StepSays (step_value source.now.rules.now self.old at (mark byte)) self.new result }
     {
         if let Some(rule) = source.opened_by(byte) {
             return self.push(rule, at);
         }
         if source.closes(byte) && !self.own_close(byte) {
-            return Ok(Step::Stops(Fault::ClosesNothing(at)));
+            return Err(CallError::faulty(FaultKind::ClosesNothing, at));
         }
-        Ok(Step::Stops(Fault::NoValue(at)))
+        Err(CallError::faulty(FaultKind::NoValue, at))
     }
 
     // A bracket or separator behind a value.
-    fn mark_behind(&mut self, source: &Source, byte: u8, at: usize) -> Step
-        ensures { step_behind source.now.rules.now (frames_of self.old.stack.items) at (mark byte) ≡ step_of (frames_of self.new.stack.items) result }
+    fn mark_behind(&mut self, source: &Source, byte: u8, at: usize) -> Result<Expects, CallError>
+        ensures says { StepSays (step_behind source.now.rules.now self.old at (mark byte)) self.new result }
+        ensures told { result ≢ Err NoMemory }
     {
         if self.own_separator(byte) {
-            return Step::Goes(Expects::Value);
+            return Ok(Expects::Value);
         }
         if self.own_close(byte) {
-            return self.pop();
+            return Ok(self.pop());
         }
         if source.closes(byte) {
-            return Step::Stops(Fault::ClosesNothing(at));
+            return Err(CallError::faulty(FaultKind::ClosesNothing, at));
         }
-        Step::Stops(Fault::Behind(at))
+        Err(CallError::faulty(FaultKind::Behind, at))
     }
 
     // One bracket or separator.
@@ -149,8 +128,8 @@ impl Reader {
         expects: Expects,
         byte: u8,
         at: usize,
-    ) -> Result<Step, AllocError>
-        ensures { IfOk result (λ x. step source.now.rules.now (frames_of self.old.stack.items) (expects_of expects) at (mark byte) ≡ step_of (frames_of self.new.stack.items) x) }
+    ) -> Result<Expects, CallError>
+        ensures { StepSays (step source.now.rules.now self.old (expects_of expects) at (mark byte)) self.new result }
     {
         match expects {
             Expects::Value => self.mark_at_value(source, byte, at),
@@ -164,9 +143,9 @@ impl Reader {
                 if let Some(rule) = source.opened_by(byte) {
                     return self.push(rule, at);
                 }
-                Ok(self.mark_behind(source, byte, at))
+                self.mark_behind(source, byte, at)
             }
-            Expects::BehindValue => Ok(self.mark_behind(source, byte, at)),
+            Expects::BehindValue => self.mark_behind(source, byte, at),
         }
     }
 
@@ -176,47 +155,46 @@ impl Reader {
         source: &Source,
         expects: Expects,
         lexeme: Lexeme,
-    ) -> Result<Step, AllocError>
-        ensures { IfOk result (λ x. step source.now.rules.now (frames_of self.old.stack.items) (expects_of expects) lexeme.start (token_of source.now.bytes.now lexeme) ≡ step_of (frames_of self.new.stack.items) x) }
+    ) -> Result<Expects, CallError>
+        ensures { StepSays (step source.now.rules.now self.old (expects_of expects) lexeme.entry.at (token_of lexeme.entry.token)) self.new result }
     {
-        if let Sign::Mark(byte) = lexeme.sign {
-            return self.step_mark(source, expects, byte, lexeme.start);
+        if let Token::Mark(byte) = lexeme.token {
+            return self.step_mark(source, expects, byte, lexeme.at);
         }
         match expects {
-            Expects::Value | Expects::ValueOrClose => Ok(Step::Goes(Expects::BehindWord)),
-            Expects::BehindWord | Expects::BehindValue => Ok(Step::Stops(Fault::Behind(
-                lexeme.start,
-            ))),
+            Expects::Value | Expects::ValueOrClose => Ok(Expects::BehindWord),
+            Expects::BehindWord | Expects::BehindValue => {
+                Err(CallError::faulty(FaultKind::Behind, lexeme.at))
+            }
         }
     }
 
     // What is wrong at the source's end.
-    fn at_end(&self, end: usize, expects: Expects) -> Option<Fault>
-        ensures { at_end end (frames_of self.now.stack.items) (expects_of expects) ≡ option_map fault_of result }
+    fn at_end(&self, end: usize, expects: Expects) -> Result<(), CallError>
+        ensures says { Told (at_end end self.now (expects_of expects)) result }
+        ensures told { result ≢ Err NoMemory }
     {
         if let Some(frame) = self.innermost() {
-            return Some(Fault::LeftOpen(frame.opened));
+            return Err(CallError::faulty(FaultKind::LeftOpen, frame.opened));
         }
         match expects {
-            Expects::Value | Expects::ValueOrClose => Some(Fault::NoValue(end)),
-            Expects::BehindWord | Expects::BehindValue => None,
+            Expects::Value | Expects::ValueOrClose => Err(CallError::faulty(
+                FaultKind::NoValue,
+                end,
+            )),
+            Expects::BehindWord | Expects::BehindValue => Ok(()),
         }
     }
 
     // What is wrong with a source, if anything is.
-    pub(crate) fn check(&mut self, source: &Source) -> Result<Option<Fault>, AllocError>
-        ensures { IfOk result (Tells source.now.rules.now source.now.bytes.now) }
+    pub(crate) fn check(&mut self, source: &Source) -> Result<(), CallError>
+        ensures { Tells source.now.rules.now source.now.bytes.now result }
     {
         self.stack.clear();
         let mut expects = Expects::Value;
-        let mut at = 0;
-        while let Some(lexeme) = source.next(at) {
-            match self.step(source, expects, lexeme)? {
-                Step::Goes(next) => expects = next,
-                Step::Stops(fault) => return Ok(Some(fault)),
-            }
-            at = lexeme.end;
+        for lexeme in source.lexemes() {
+            expects = self.step(source, expects, lexeme)?;
         }
-        Ok(self.at_end(source.bytes.len(), expects))
+        self.at_end(source.bytes.len(), expects)
     }
 }

@@ -1,11 +1,10 @@
 // How a list is written, and whether brackets and separators are told apart.
 ghost use Rattle.std.specs.Prelude.{◌≡◌};
-ghost use Rattle.calls.specs.Tokens.{blank};
-ghost use Rattle.calls.specs.Values.{fresh, sound_rule, unambiguous};
-ghost use Rattle.calls.specs.Lexing.{apart, own};
+ghost use Rattle.calls.specs.Tokens.{blank, own};
+ghost use Rattle.calls.specs.Values.{apart, fresh, sound_rule, unambiguous};
 
 // How a list is written: its brackets, what stands between its values, and how far these are indented.
-#[derive(Clone, Copy)]
+#[derive(Clone, Copy, Debug, PartialEq, Eq)]
 pub struct Rule {
     pub open: u8,
     pub close: u8,
@@ -39,7 +38,7 @@ pub const DEFAULT: [Rule; 3] = [
 pub(crate) fn is_blank(byte: u8) -> bool
     ensures { result ≡ blank byte }
 {
-    byte == b' ' || byte == b'\t' || byte == b'\n' || byte == b'\r'
+    matches!(byte, b' ' | b'\t' | b'\n' | b'\r')
 }
 
 impl Rule {
@@ -66,39 +65,33 @@ impl Rule {
     fn is_apart(&self, other: &Rule) -> bool
         ensures { result ≡ apart self.now other.now }
     {
-        self.open != other.open
-            && self.open != other.close
-            && self.close != other.open
-            && self.open != other.separator
+        !other.has(self.open)
+            && !self.has(other.open)
             && self.close != other.separator
-            && self.separator != other.open
             && self.separator != other.close
     }
 }
 
 // Whether a rule is told apart from each of some others.
+#[tactic(auto, unfolding(crate::specs::Values::fresh))]
 fn fresh(rules: &[Rule], rule: &Rule) -> bool
     ensures { result ≡ fresh rules.now rule.now }
 {
-    for other in rules {
-        if !other.is_apart(rule) {
-            return false;
-        }
-    }
-    true
+    rules.iter().all(|other| other.is_apart(rule))
 }
 
 // Whether brackets and separators are told apart in all rules.
+#[tactic(auto, unfolding(crate::specs::Values::unambiguous))]
 pub fn unambiguous(rules: &[Rule]) -> bool
     ensures { result ≡ unambiguous rules.now }
 {
-    for (i, rule) in rules.iter().enumerate() {
-        if !rule.is_sound() {
+    let mut left = rules;
+    // No `all`: each rule is compared with those behind it, for which a closure would count an index.
+    while let Some((rule, others)) = left.split_first() {
+        if !rule.is_sound() || !fresh(others, rule) {
             return false;
         }
-        if !fresh(&rules[i + 1..], rule) {
-            return false;
-        }
+        left = others;
     }
     true
 }

@@ -1,10 +1,11 @@
 // Holds the printer against a search through all layouts.
-use crate::plain::Setter;
+use crate::plain::{Document, Greedy, Layout, Price};
 use doc::nodes::Nodes;
-use layout::entry::{NO_ROOM, NOT_DOCUMENT, TOO_WIDE, set};
-use layout::reply::Reply;
+use layout::laid::Laid;
+use layout::refusal::Refusal;
 use layout::workspace::Workspace;
 use std::alloc::{AllocError, Global};
+use std::cmp::Ordering;
 
 // Every width up to 40, and some up to the largest.
 pub const WIDTHS: [u64; 47] = [
@@ -12,8 +13,11 @@ pub const WIDTHS: [u64; 47] = [
     26, 27, 28, 29, 30, 31, 32, 33, 34, 35, 36, 37, 38, 39, 40, 50, 63, 80, 127, 200, 255,
 ];
 
+// The byte that an output buffer is filled with.
+const FILLED: u8 = 7;
+
 // What came out, in numbers.
-#[derive(Clone, Copy)]
+#[derive(Clone, Copy, Default)]
 pub struct Tally {
     pub documents: u64,
     pub refused: u64,
@@ -25,41 +29,57 @@ pub struct Tally {
     pub failed: u64,
 }
 
-// The best layout so far at a width: its cost, its number, and whether another one is as good.
+fn count(tally: &mut u64) {
+    *tally = tally.saturating_add(1);
+}
+
+// A layout: its price, its number, and whether another one is as good.
 #[derive(Clone, Copy)]
 struct Found {
-    beyond: u64,
-    lines: u64,
+    price: Price,
     number: u64,
     tied: bool,
-    some: bool,
 }
 
 impl Found {
-    const NONE: Found = Found {
-        beyond: 0,
-        lines: 0,
-        number: 0,
-        tied: false,
-        some: false,
-    };
-
-    // The better of this and another layout, and of equals this one.
-    fn or(self, beyond: u64, lines: u64, number: u64) -> Found {
-        if self.some && beyond == self.beyond && lines == self.lines {
-            return Found { tied: true, ..self };
-        }
-        if self.some && (beyond > self.beyond || beyond == self.beyond && lines > self.lines) {
-            return self;
-        }
-        Found {
-            beyond,
-            lines,
-            number,
-            tied: false,
-            some: true,
+    // The better of this and a later layout, and of equals this one.
+    fn or(self, later: Found) -> Found {
+        match self.price.cmp(&later.price) {
+            Ordering::Less => self,
+            Ordering::Equal => Found { tied: true, ..self },
+            Ordering::Greater => later,
         }
     }
+}
+
+// A width, and the best layout at it so far.
+#[derive(Clone, Copy)]
+struct Trial {
+    width: u64,
+    best: Option<Found>,
+}
+
+impl Trial {
+    // Looks at one more layout.
+    fn weigh(&mut self, layout: &Layout, number: u64) {
+        let found = Found {
+            price: layout.price(self.width),
+            number,
+            tied: false,
+        };
+        self.best = Some(self.best.map_or(found, |best| best.or(found)));
+    }
+}
+
+// Looks at one more layout at each width.
+fn weigh(trials: &mut [Trial], layout: &Layout, number: u64) {
+    for trial in trials {
+        trial.weigh(layout, number);
+    }
+}
+
+fn is_filled(bytes: &[u8]) -> bool {
+    bytes.iter().all(|byte| *byte == FILLED)
 }
 
 #[derive(Drop)]
@@ -72,51 +92,44 @@ pub struct Judge {
 
 impl Judge {
     pub fn new(heap: Global, room: Workspace) -> Judge {
-        let tally = Tally {
-            documents: 0,
-            refused: 0,
-            layouts: 0,
-            greedy: 0,
-            ties: 0,
-            short: 0,
-            passed: 0,
-            failed: 0,
-        };
         Judge {
             heap,
             room,
             out: Vec::new(heap),
-            tally,
+            tally: Tally::default(),
         }
     }
 
     fn note(&mut self, right: bool) {
         if right {
-            self.tally.passed = self.tally.passed.saturating_add(1);
+            count(&mut self.tally.passed);
         } else {
-            self.tally.failed = self.tally.failed.saturating_add(1);
+            count(&mut self.tally.failed);
         }
     }
 
-    // Whether the printer refuses with a number, and leaves the buffer as it was.
+    // What the printer answers, and writes to a filled buffer of so many bytes; the document and the width as `lay_out` takes them.
+    fn ask(
+        &mut self,
+        spelled: &[u8],
+        width: u64,
+        len: usize,
+    ) -> Result<Result<Laid, Refusal>, AllocError> {
+        self.out.clear();
+        self.out.resize(len, FILLED)?;
+        Ok(self.room.lay_out(spelled, width, self.out.as_mut_slice()))
+    }
+
+    // Whether the printer refuses so, and leaves the buffer as it was.
     fn refuses(
         &mut self,
         spelled: &[u8],
         width: u64,
         len: usize,
-        number: u64,
+        refusal: Refusal,
     ) -> Result<bool, AllocError> {
-        self.out.clear();
-        self.out.resize(len, 7)?;
-        let reply = set(&mut self.room, spelled, width, self.out.as_mut_slice());
-        let mut same = true;
-        for byte in self.out.as_slice() {
-            same = same && *byte == 7;
-        }
-        match reply {
-            Reply::Lines(_) => Ok(false),
-            Reply::Refused(n) => Ok(same && n == number),
-        }
+        let answer = self.ask(spelled, width, len)?;
+        Ok(answer == Err(refusal) && is_filled(self.out.as_slice()))
     }
 
     // Whether the printer gives this layout, and leaves the rest of a longer buffer as it was.
@@ -125,59 +138,46 @@ impl Judge {
         spelled: &[u8],
         width: u64,
         text: &[u8],
-        lines: u64,
+        lines: usize,
     ) -> Result<bool, AllocError> {
-        let len = text.len().saturating_add(3);
-        self.out.clear();
-        self.out.resize(len, 7)?;
-        let reply = set(&mut self.room, spelled, width, self.out.as_mut_slice());
-        let mut same = true;
-        for (i, byte) in self.out.as_slice().iter().enumerate() {
-            let expected = match text.get(i) {
-                Some(b) => *b,
-                None => 7,
-            };
-            same = same && *byte == expected;
-        }
-        match reply {
-            Reply::Lines(_) => Ok(same && reply.length() == text.len() && reply.lines() == lines),
-            Reply::Refused(_) => Ok(false),
-        }
+        let answer = self.ask(spelled, width, text.len().saturating_add(3))?;
+        let told = answer.is_ok_and(|laid| laid.length == text.len() && laid.lines == lines);
+        let behind = self.out.as_slice().strip_prefix(text);
+        Ok(told && behind.is_some_and(is_filled))
     }
 
-    // Looks at one layout at every width.
-    fn weigh(&mut self, setter: &Setter, number: u64, found: &mut [Found]) {
-        self.tally.layouts = self.tally.layouts.saturating_add(1);
-        let lines = (setter.lengths.len() as u64).saturating_sub(1);
-        for (best, width) in found.iter_mut().zip(WIDTHS.iter()) {
-            *best = best.or(setter.beyond(*width), lines, number);
-        }
-    }
-
-    // Compares the best layout at one width, with room for it and with less.
-    fn width(
+    // Compares the best layout at one width, with room for it and with less. Where none was found, that counts as failed.
+    fn compare(
         &mut self,
-        setter: &mut Setter,
-        best: Found,
-        width: u64,
+        document: &Document,
+        trial: Trial,
         room: usize,
     ) -> Result<(), AllocError> {
-        let spelled = setter.spelled;
-        setter.greedy(width)?;
-        let mut greedy = Vec::new(self.heap);
-        greedy.extend_from_slice(setter.out.as_slice())?;
-        setter.layout(best.number)?;
-        if greedy.as_slice() != setter.out.as_slice() {
-            self.tally.greedy = self.tally.greedy.saturating_add(1);
+        let Trial {
+            width,
+            best: Some(best),
+        } = trial
+        else {
+            self.note(false);
+            return Ok(());
+        };
+        let Some(layout) = document.numbered(self.heap, best.number)? else {
+            self.note(false);
+            return Ok(());
+        };
+        let text = layout.text.as_slice();
+        let greedy = document.layout(self.heap, &mut Greedy { width })?;
+        if greedy.is_none_or(|other| other.text.as_slice() != text) {
+            count(&mut self.tally.greedy);
         }
         if best.tied {
-            self.tally.ties = self.tally.ties.saturating_add(1);
+            count(&mut self.tally.ties);
         }
-        let right = self.gives(spelled, width, setter.out.as_slice(), best.lines)?;
+        let right = self.gives(document.spelled, width, text, best.price.lines)?;
         self.note(right);
-        if room < setter.out.len() {
-            self.tally.short = self.tally.short.saturating_add(1);
-            let right = self.refuses(spelled, width, room, NO_ROOM)?;
+        if room < text.len() {
+            count(&mut self.tally.short);
+            let right = self.refuses(document.spelled, width, room, Refusal::NoRoom)?;
             self.note(right);
         }
         Ok(())
@@ -191,28 +191,48 @@ impl Judge {
         room: usize,
     ) -> Result<(), AllocError> {
         let Ok(()) = nodes.read(spelled) else {
-            self.tally.refused = self.tally.refused.saturating_add(1);
-            let right = self.refuses(spelled, 256, room, NOT_DOCUMENT)?;
+            count(&mut self.tally.refused);
+            let right = self.refuses(spelled, 256, room, Refusal::NotDocument)?;
             self.note(right);
             return Ok(());
         };
-        self.tally.documents = self.tally.documents.saturating_add(1);
-        let right = self.refuses(spelled, 256, room, TOO_WIDE)?;
+        count(&mut self.tally.documents);
+        let right = self.refuses(spelled, 256, room, Refusal::TooWide)?;
         self.note(right);
-        let mut setter = Setter::new(
-            nodes.as_slice(),
-            spelled,
-            Vec::new(self.heap),
-            Vec::new(self.heap),
-        );
-        let mut found = vec![in self.heap; Found::NONE; WIDTHS.len()]?;
-        for number in 0..setter.numbers() {
-            if setter.layout(number)? {
-                self.weigh(&setter, number, found.as_mut_slice());
+        // too many layouts to go through count as failed, too
+        let Some(document) = Document::new(nodes.as_slice(), spelled) else {
+            self.note(false);
+            return Ok(());
+        };
+        self.search(&document, room)
+    }
+
+    // Goes through all layouts of a document, and compares the best one at every width.
+    fn search(&mut self, document: &Document, room: usize) -> Result<(), AllocError> {
+        let mut trials: Vec<Trial> = WIDTHS
+            .iter()
+            .map(|width| Trial {
+                width: *width,
+                best: None,
+            })
+            .collect(self.heap)?;
+        for number in 0..document.numbers {
+            if let Some(layout) = document.numbered(self.heap, number)? {
+                count(&mut self.tally.layouts);
+                weigh(trials.as_mut_slice(), &layout, number);
             }
         }
-        for (best, width) in found.as_slice().iter().zip(WIDTHS.iter()) {
-            self.width(&mut setter, *best, *width, room)?;
+        self.compare_all(document, trials.as_slice(), room)
+    }
+
+    fn compare_all(
+        &mut self,
+        document: &Document,
+        trials: &[Trial],
+        room: usize,
+    ) -> Result<(), AllocError> {
+        for trial in trials {
+            self.compare(document, *trial, room)?;
         }
         Ok(())
     }

@@ -1,181 +1,229 @@
 // A plain search through all layouts of a document, which shares nothing with the printer but the reader's nodes.
 use doc::node::{Kind, Node};
-use std::alloc::AllocError;
+use std::alloc::{AllocError, AllocFailed, Global};
 
-// One layout, by a number whose bits say which groups are broken, the first group's the highest.
-#[derive(Drop)]
-pub struct Setter<'n, 's> {
-    pub nodes: &'n [Node],
-    pub spelled: &'s [u8],
-    pub out: Vec<u8>,
-    pub lengths: Vec<u64>,
-    column: u64,
-    groups: u64,
-    seen: u64,
-    broken: u64,
-    // A group in a flat one was said to be broken: this is no layout.
-    wrong: bool,
-    // Groups are flat as long as they themselves fit in so many columns, whatever is said.
-    greedy: Option<u64>,
+// A document with more groups has too many layouts to go through.
+const MOST_GROUPS: usize = 20;
+
+// What a layout costs at a width, the bytes beyond it first: the printer's cost once more, as nothing is shared with it.
+#[derive(Clone, Copy, PartialEq, Eq, PartialOrd, Ord)]
+pub struct Price {
+    pub beyond: u64,
+    pub lines: usize,
 }
 
-impl<'n, 's> Setter<'n, 's> {
-    pub fn new(
-        nodes: &'n [Node],
-        spelled: &'s [u8],
-        out: Vec<u8>,
-        lengths: Vec<u64>,
-    ) -> Setter<'n, 's> {
-        let mut groups = 0u64;
-        for node in nodes {
-            if let Kind::Group = node.kind {
-                groups = groups.saturating_add(1);
-            }
+// Whether each group is broken, as they are gone through.
+pub trait Decider {
+    // Whether the group is broken that begins at a column and has these nodes in it.
+    fn breaks(&mut self, column: u64, inner: &[Node]) -> bool;
+}
+
+// A number's bits say which groups are broken, the first group's bit the highest.
+#[derive(Drop)]
+pub struct Numbered {
+    number: u64,
+    // The bit of the group before, twice the next one's.
+    bit: u64,
+}
+
+impl Decider for Numbered {
+    fn breaks(&mut self, _column: u64, _inner: &[Node]) -> bool {
+        self.bit >>= 1;
+        self.number & self.bit != 0
+    }
+}
+
+// A printer that goes from the left and looks at the group alone: it is flat where it fits in so many columns.
+#[derive(Drop)]
+pub struct Greedy {
+    pub width: u64,
+}
+
+impl Decider for Greedy {
+    fn breaks(&mut self, column: u64, inner: &[Node]) -> bool {
+        column.saturating_add(flat_length(inner)) > self.width
+    }
+}
+
+// How long a node is on one line, without its parts.
+fn width(node: &Node) -> u64 {
+    match node.kind {
+        Kind::Text(_, len) => u64::from(len),
+        Kind::Line => 1,
+        _ => 0,
+    }
+}
+
+// How long some nodes are on one line.
+fn flat_length(nodes: &[Node]) -> u64 {
+    nodes
+        .iter()
+        .fold(0u64, |length, node| length.saturating_add(width(node)))
+}
+
+// Why no layout is made.
+enum Stop {
+    OutOfMemory,
+    // A group in a flat one is said to be broken.
+    NotLayout,
+}
+
+impl From<AllocError> for Stop {
+    fn from(_: AllocError) -> Stop {
+        Stop::OutOfMemory
+    }
+}
+
+impl<T: Drop> From<AllocFailed<T>> for Stop {
+    fn from(_: AllocFailed<T>) -> Stop {
+        Stop::OutOfMemory
+    }
+}
+
+// A layout as it is made.
+#[derive(Drop)]
+pub struct Layout {
+    pub text: Vec<u8>,
+    // How long each line is that has ended.
+    ended: Vec<u64>,
+    // How long the last line is.
+    column: u64,
+}
+
+// What is around a part of a document.
+#[derive(Clone, Copy)]
+struct Around {
+    indent: u64,
+    flat: bool,
+}
+
+impl Layout {
+    fn new(heap: Global) -> Layout {
+        Layout {
+            text: Vec::new(heap),
+            ended: Vec::new(heap),
+            column: 0,
         }
-        Setter {
+    }
+
+    // The bytes beyond a width, of all lines together, and how many lines ended.
+    pub fn price(&self, width: u64) -> Price {
+        let last = self.column.saturating_sub(width);
+        let beyond = self.ended.iter().fold(last, |sum, len| {
+            sum.saturating_add(len.saturating_sub(width))
+        });
+        let lines = self.ended.len();
+        Price { beyond, lines }
+    }
+
+    fn put(&mut self, text: &[u8]) -> Result<(), AllocError> {
+        self.text.extend_from_slice(text)?;
+        self.column = self.column.saturating_add(text.len() as u64);
+        Ok(())
+    }
+
+    fn line(&mut self, around: Around) -> Result<(), AllocError> {
+        if around.flat {
+            return self.put(b" ");
+        }
+        self.ended.push(self.column)?;
+        self.text.push(b'\n')?;
+        self.column = 0;
+        for _ in 0..around.indent {
+            self.put(b" ")?;
+        }
+        Ok(())
+    }
+}
+
+// A document's nodes and encoding, and how many numbers there are of its layouts.
+#[derive(Clone, Copy)]
+pub struct Document<'a> {
+    nodes: &'a [Node],
+    pub spelled: &'a [u8],
+    pub numbers: u64,
+}
+
+impl<'a> Document<'a> {
+    // A document, or none where its layouts are too many.
+    pub fn new(nodes: &'a [Node], spelled: &'a [u8]) -> Option<Document<'a>> {
+        let groups = nodes.iter().filter(|node| node.kind == Kind::Group).count();
+        if groups > MOST_GROUPS {
+            return None;
+        }
+        Some(Document {
             nodes,
             spelled,
-            out,
-            lengths,
-            column: 0,
-            groups,
-            seen: 0,
-            broken: 0,
-            wrong: false,
-            greedy: None,
+            numbers: 1 << groups,
+        })
+    }
+
+    // The layout of a number, or none where a group in a flat one would be broken.
+    pub fn numbered(&self, heap: Global, number: u64) -> Result<Option<Layout>, AllocError> {
+        let bit = self.numbers;
+        self.layout(heap, &mut Numbered { number, bit })
+    }
+
+    // The layout of some decisions, or none where a group in a flat one would be broken.
+    pub fn layout<D: Decider>(
+        &self,
+        heap: Global,
+        decider: &mut D,
+    ) -> Result<Option<Layout>, AllocError> {
+        let mut layout = Layout::new(heap);
+        let around = Around {
+            indent: 0,
+            flat: false,
+        };
+        match self.part(&mut layout, decider, 0, around) {
+            Ok(()) => Ok(Some(layout)),
+            Err(Stop::NotLayout) => Ok(None),
+            Err(Stop::OutOfMemory) => Err(AllocError),
         }
     }
 
-    // How many numbers there are to be tried.
-    pub fn numbers(&self) -> u64 {
-        if self.groups > 20 {
-            return 0;
-        }
-        1u64 << self.groups
-    }
-
-    // The layout of a number, or false where it is none.
-    pub fn layout(&mut self, broken: u64) -> Result<bool, AllocError> {
-        self.greedy = None;
-        self.run(broken)?;
-        Ok(!self.wrong)
-    }
-
-    // The layout of a printer that goes from the left and looks at the group alone.
-    pub fn greedy(&mut self, width: u64) -> Result<(), AllocError> {
-        self.greedy = Some(width);
-        self.run(0)
-    }
-
-    fn run(&mut self, broken: u64) -> Result<(), AllocError> {
-        self.out.clear();
-        self.lengths.clear();
-        self.column = 0;
-        self.seen = 0;
-        self.wrong = false;
-        self.broken = broken;
-        self.part(0, 0, false, self.nodes.len() + 1)?;
-        self.lengths.push(self.column)?;
-        Ok(())
-    }
-
-    // The bytes beyond a width, of all lines together.
-    pub fn beyond(&self, width: u64) -> u64 {
-        let mut beyond = 0u64;
-        for len in self.lengths.as_slice() {
-            beyond = beyond.saturating_add(len.saturating_sub(width));
-        }
-        beyond
-    }
-
-    fn put(&mut self, byte: u8) -> Result<(), AllocError> {
-        self.out.push(byte)?;
-        self.column = self.column.saturating_add(1);
-        Ok(())
-    }
-
-    fn text(&mut self, start: u32, len: u8) -> Result<(), AllocError> {
-        for i in 0..len {
-            let at = start as usize + i as usize;
-            if let Some(byte) = self.spelled.get(at) {
-                self.put(*byte)?;
-            }
-        }
-        Ok(())
-    }
-
-    fn line(&mut self, indent: u64, flat: bool) -> Result<(), AllocError> {
-        if flat {
-            return self.put(b' ');
-        }
-        self.lengths.push(self.column)?;
-        self.out.push(10)?;
-        self.column = 0;
-        for _ in 0..indent {
-            self.put(b' ')?;
-        }
-        Ok(())
-    }
-
-    // How long the nodes from one index to another are on one line.
-    fn flat_length(&self, from: usize, to: usize) -> u64 {
-        let mut length = 0u64;
-        for node in self.nodes.iter().skip(from).take(to.saturating_sub(from)) {
-            let more = match node.kind {
-                Kind::Text(_, len) => u64::from(len),
-                Kind::Line => 1,
-                _ => 0,
-            };
-            length = length.saturating_add(more);
-        }
-        length
-    }
-
-    // Whether the group at an index is flat, within a flat one or not.
-    fn decide(&mut self, at: usize, end: usize, flat: bool) -> bool {
-        let shift = self
-            .groups
-            .saturating_sub(self.seen)
-            .saturating_sub(1)
-            .min(63);
-        self.seen = self.seen.saturating_add(1);
-        let broken = (self.broken >> shift) & 1 == 1;
-        if let Some(width) = self.greedy {
-            return flat || self.column.saturating_add(self.flat_length(at, end)) <= width;
-        }
-        if flat && broken {
-            self.wrong = true;
-        }
-        flat || !broken
-    }
-
-    // Sets the document at an index; `left` falls.
-    fn part(&mut self, at: usize, indent: u64, flat: bool, left: usize) -> Result<(), AllocError> {
+    // Sets the part at an index: the row that is read is gone through as it is, since a tree would take a reader of its own.
+    fn part<D: Decider>(
+        &self,
+        layout: &mut Layout,
+        decider: &mut D,
+        at: usize,
+        around: Around,
+    ) -> Result<(), Stop> {
         let Some(node) = self.nodes.get(at) else {
             return Ok(());
         };
-        if left == 0 || at >= 1_000_000 {
-            return Ok(());
-        }
-        let kind = node.kind;
         let end = node.end as usize;
-        match kind {
-            Kind::Nil => Ok(()),
-            Kind::Text(start, len) => self.text(start, len),
-            Kind::Line => self.line(indent, flat),
-            Kind::Nest(k) => self.part(at + 1, indent.saturating_add(u64::from(k)), flat, left - 1),
+        match node.kind {
+            Kind::Nil => {}
+            Kind::Text(start, len) => {
+                let start = start as usize;
+                let text = self.spelled.get(start..start + usize::from(len));
+                layout.put(text.unwrap_or_default())?;
+            }
+            Kind::Line => layout.line(around)?,
+            Kind::Nest(k) => {
+                let indent = around.indent.saturating_add(u64::from(k));
+                self.part(layout, decider, at + 1, Around { indent, ..around })?;
+            }
             Kind::Group => {
-                let inner = self.decide(at, end, flat);
-                self.part(at + 1, indent, inner, left - 1)
+                let inner = self.nodes.get(at..end).unwrap_or_default();
+                let broken = decider.breaks(layout.column, inner);
+                if broken && around.flat {
+                    return Err(Stop::NotLayout);
+                }
+                let flat = !broken;
+                self.part(layout, decider, at + 1, Around { flat, ..around })?;
             }
             Kind::Cat => {
-                let second = match self.nodes.get(at + 1) {
-                    Some(first) => first.end as usize,
-                    None => end,
-                };
-                self.part(at + 1, indent, flat, left - 1)?;
-                self.part(second, indent, flat, left - 1)
+                let second = self
+                    .nodes
+                    .get(at + 1)
+                    .map_or(end, |first| first.end as usize);
+                self.part(layout, decider, at + 1, around)?;
+                self.part(layout, decider, second.max(at + 1), around)?;
             }
         }
+        Ok(())
     }
 }

@@ -1,10 +1,14 @@
-// Random documents, by a fixed generator.
-ghost use Rattle.std.specs.Prelude.{◌<◌};
+// Random documents, by a fixed generator of its own, as what the program prints depends on each number.
+ghost use Rattle.std.specs.Prelude.{◌<◌, ◌≤◌};
 
+use doc::tag::Tag;
 use std::alloc::{AllocError, AllocFailed};
 
-// As many groups as a search through all layouts can go through.
+// As many groups as a search through all layouts goes through in a short time.
 const MOST_GROUPS: u64 = 14;
+
+// What texts are made of.
+const LETTERS: &[u8; 5] = b" bcda";
 
 #[derive(Drop)]
 pub struct Random {
@@ -16,9 +20,10 @@ impl Random {
         Random { state: seed | 1 }
     }
 
-    // A number below n, or 0.
+    // A number below n, or 0. An Option would be taken apart at each call, and all pass a number above 0 but where there is nothing to damage.
     pub fn below(&mut self, n: u64) -> u64
-        ensures { 0 < n → result < n }
+        ensures below { 0 < n → result < n }
+        ensures within { result ≤ n }
     {
         let mut x = self.state;
         x ^= x >> 12;
@@ -26,15 +31,12 @@ impl Random {
         x ^= x >> 27;
         self.state = x;
         let y = x.wrapping_mul(2_685_821_657_736_338_717) >> 33;
-        if n == 0 {
-            return 0;
-        }
-        y % n
+        y.checked_rem(n).unwrap_or(0)
     }
 
-    // A byte below n, which is at most 256.
-    fn byte(&mut self, n: u64) -> u8 {
-        (self.below(n) & 255) as u8
+    // A byte below n, or 0.
+    fn byte(&mut self, n: u8) -> u8 {
+        self.below(u64::from(n)) as u8
     }
 }
 
@@ -66,29 +68,29 @@ impl Maker {
     pub fn damage(&mut self) {
         let at = self.random.below(self.spelled.len() as u64) as usize;
         let byte = self.random.byte(12);
-        if at < self.spelled.len() {
-            self.spelled[at] = byte;
+        if let Some(place) = self.spelled.get_mut(at) {
+            *place = byte;
         }
     }
 
+    fn tag(&mut self, tag: Tag) -> Result<(), AllocFailed<u8>> {
+        self.spelled.push(tag as u8)
+    }
+
     fn text(&mut self) -> Result<(), AllocFailed<u8>> {
-        let len = self.random.below(7);
-        self.spelled.push(1)?;
-        self.spelled.push((len & 255) as u8)?;
+        let len = self.random.byte(7);
+        self.tag(Tag::Text)?;
+        self.spelled.push(len)?;
         for _ in 0..len {
-            let letter = match self.random.below(5) {
-                0 => b' ',
-                n => b'a' + (n & 3) as u8,
-            };
-            self.spelled.push(letter)?;
+            self.spelled.push(LETTERS[self.random.below(5) as usize])?;
         }
         Ok(())
     }
 
     fn leaf(&mut self) -> Result<(), AllocFailed<u8>> {
         match self.random.below(8) {
-            0 => self.spelled.push(0),
-            1..=3 => self.spelled.push(4),
+            0 => self.tag(Tag::Nil),
+            1..=3 => self.tag(Tag::Line),
             _ => self.text(),
         }
     }
@@ -100,18 +102,18 @@ impl Maker {
         }
         match self.random.below(8) {
             0 => {
-                self.spelled.push(3)?;
+                self.tag(Tag::Nest)?;
                 let k = self.random.byte(6);
                 self.spelled.push(k)?;
                 self.document(parts - 1)
             }
             1..=3 if self.groups < MOST_GROUPS => {
                 self.groups += 1;
-                self.spelled.push(5)?;
+                self.tag(Tag::Group)?;
                 self.document(parts - 1)
             }
             _ => {
-                self.spelled.push(2)?;
+                self.tag(Tag::Cat)?;
                 let first = self.random.below(parts);
                 self.document(first)?;
                 self.document(parts - 1 - first)

@@ -6,14 +6,14 @@ ghost use Rattle.cost.specs.Price.{beats, capped, further, line_more};
 pub const LIMIT: u32 = 131_073;
 
 // How a line is laid out: as a blank, or as the end of a line.
-#[derive(Clone, Copy)]
+#[derive(Clone, Copy, Debug, PartialEq, Eq)]
 pub enum Mode {
     Flat,
     Broken,
 }
 
-// Bytes beyond the width, and lines ended.
-#[derive(Clone, Copy)]
+// Bytes beyond the width, and lines ended. Costs are compared by the bytes, and by the lines where those are as many.
+#[derive(Clone, Copy, Debug, Default, PartialEq, Eq, PartialOrd, Ord)]
 pub struct Cost {
     pub beyond: u32,
     pub lines: u32,
@@ -24,7 +24,7 @@ impl Cost {
     pub fn beats(self, other: Cost) -> bool
         ensures { result ≡ beats self other }
     {
-        self.beyond < other.beyond || self.beyond == other.beyond && self.lines < other.lines
+        self < other
     }
 
     // The cost of so many bytes beyond the width and so many lines; from the limit on, costs are not told apart.

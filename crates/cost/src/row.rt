@@ -1,10 +1,11 @@
 // Rows of costs: what the rest of a document costs, by the column where it begins.
-ghost use Rattle.std.specs.Prelude.{◌≡◌, ◌+◌, ◌^◌, ◌<◌, ◌≤◌, ◌++◌, length, replicate, vec_len, vec_capacity};
+ghost use Rattle.std.specs.Prelude.{◌≡◌, ◌+◌, ◌^◌, ◌<◌, ◌≤◌, ◌++◌, length, replicate};
 ghost use Rattle.cost.specs.Chosen.{below};
 ghost use Rattle.cost.specs.Price.{beats, cheaper};
 ghost use Rattle.cost.specs.Row.{along};
 
 use crate::price::Cost;
+use doc::reserved::Reserved;
 
 // The cost at a column; past the row's end each column is one byte more beyond the width.
 pub fn along(row: &[Cost], column: usize) -> Cost
@@ -23,27 +24,31 @@ pub fn along(row: &[Cost], column: usize) -> Cost
 pub fn collapse(row: &mut [Cost], cost: Cost)
     ensures { row.new ≡ replicate (length row.old) cost }
 {
-    for at in row.iter_mut() {
-        *at = cost;
-    }
+    row.fill(cost);
 }
 
 // At each column the cheaper of two costs, the flat one where they are alike, with a note whether it is the broken one.
-pub fn merge(broken: &mut [Cost], shift: usize, flat: &[Cost], reach: usize, notes: &mut Vec<bool>)
+pub fn merge<const MOST: usize>(
+    broken: &mut [Cost],
+    shift: usize,
+    flat: &[Cost],
+    reach: usize,
+    notes: &mut Reserved<bool, MOST>,
+)
     requires some { 0 < length broken.old }
     requires few { length broken.old ≤ 256 }
     requires alike { length flat.now ≡ length broken.old }
-    requires room { vec_len notes.old + length broken.old ≤ vec_capacity notes.old }
+    requires room { length notes.old + length broken.old ≤ MOST }
     requires near { (shift ≤ 2 ^ 32) × (reach ≤ 2 ^ 32) }
     ensures row { broken.new ≡ below (λ c. cheaper (along flat.now (c + reach)) (along broken.old (c + shift))) (length broken.old) }
-    ensures notes { notes.new.items ≡ notes.old.items ++ below (λ c. beats (along broken.old (c + shift)) (along flat.now (c + reach))) (length broken.old) }
-    ensures capacity { vec_capacity notes.new ≡ vec_capacity notes.old }
+    ensures notes { notes.new ≡ notes.old ++ below (λ c. beats (along broken.old (c + shift)) (along flat.now (c + reach))) (length broken.old) }
 {
+    // By index, since each column is written while columns behind it are still to be read.
     for c in 0..broken.len() {
         let whole = along(flat, c + reach);
         let parted = along(broken, c + shift);
         let better = parted.beats(whole);
-        notes.push_reserved(better);
+        notes.push(better);
         broken[c] = if better { parted } else { whole };
     }
 }

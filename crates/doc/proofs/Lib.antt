@@ -1,5 +1,5 @@
 pub mod Encoded
 pub mod Parsing
+pub mod Reserving
 pub mod Shapes
 pub mod Sizes
-pub mod Texts

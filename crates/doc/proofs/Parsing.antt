@@ -5,7 +5,12 @@ use Rattle.std.proofs.lemmas.Bool.{cond-false, cond-true, and_from, le-leb, lt-l
 use Rattle.doc.specs.Doc.{Doc, nil, text, cat, nest, line, group}
 use Rattle.doc.specs.Encoding.{Parse, doc, no_doc, has_newline, read_byte, read_text, then_read, reads, decode}
 use Rattle.doc.specs.Nodes.{size, spells, laid, node, Spelled, RowOf}
-use Rattle.doc.specs.Reading.{NotRead, ReadOn, closed, no_node}
+use Rattle.doc.specs.Reading.{NotRead, ReadOn, TagAt, closed, no_node}
+use Rattle.doc.specs.Tags.{Tells}
+use Rattle.doc.specs.declared.tag.Tag.{Tag}
+use Rattle.doc.specs.declared.tag.NoTag.{NoTag}
+use Rattle.std.specs.Prelude.{Ok, Err, Result}
+use Rattle.std.specs.Result.{result_ok}
 use Rattle.doc.specs.declared.node.Kind.{Kind}
 use Rattle.doc.specs.declared.node.Kind.TheVariants.{Nil, Text, Cat, Nest, Line, Group}
 use Rattle.doc.specs.declared.node.Node.{Node}
@@ -30,17 +35,22 @@ module _ (s : List ℕ) (at c : ℕ) (h : at < length s) (is : get_or s at 0 ≡
   by_tag r f (suc m) l = rw (drop_more s at 0 h) (rw is (f m (omega arith)))
 
   -- no document begins with a byte above 5
-  pub no_tag : (c ≡ 0 → ⊥) → (c ≡ 1 → ⊥) → (c ≡ 2 → ⊥) → (c ≡ 3 → ⊥) → (c ≡ 4 → ⊥) → (c ≡ 5 → ⊥) → NotRead s at
+  no_tag : 5 < c → NotRead s at
   unfolding reads
-  no_tag e0 e1 e2 e3 e4 e5 =
+  no_tag above =
       by_tag no_doc
       (λ m _.
-      cond-false _ _ _ (ne_eqb c 0 e0)
-      ∙ cond-false _ _ _ (ne_eqb c 1 e1)
-      ∙ cond-false _ _ _ (ne_eqb c 2 e2)
-      ∙ cond-false _ _ _ (ne_eqb c 3 e3)
-      ∙ cond-false _ _ _ (ne_eqb c 4 e4)
-      ∙ cond-false _ _ _ (ne_eqb c 5 e5))
+      cond-false _ _ _ (ne_eqb c 0 (λ e. omega arith))
+      ∙ cond-false _ _ _ (ne_eqb c 1 (λ e. omega arith))
+      ∙ cond-false _ _ _ (ne_eqb c 2 (λ e. omega arith))
+      ∙ cond-false _ _ _ (ne_eqb c 3 (λ e. omega arith))
+      ∙ cond-false _ _ _ (ne_eqb c 4 (λ e. omega arith))
+      ∙ cond-false _ _ _ (ne_eqb c 5 (λ e. omega arith)))
+
+  -- what is told of the first byte is told of the document
+  pub tag_at : (r : Result Tag NoTag) → Tells c r → TagAt s at (result_ok r)
+  tag_at (Ok t) e = (h, is ∙ sym e)
+  tag_at (Err e) above = no_tag above
 
 module _ (s : List ℕ) (at : ℕ) (h : at < length s) where
   pub nil_read : get_or s at 0 ≡ 0 → (old new : List Node) → new ≡ old ++ node Nil (length old + 1) ∷ [] → ReadOn s at old new (at + 1)

@@ -4,3 +4,5 @@ pub mod Nodes
 pub mod Reading
 pub mod Standing
 pub mod Laws
+pub mod Lending
+pub mod Tags

@@ -3,6 +3,8 @@ use Rattle.std.specs.Prelude.{◌≡◌, ℕ, ◌+◌, ◌<◌, ◌≤◌, false
 use Rattle.doc.specs.Doc.{Doc}
 use Rattle.doc.specs.Encoding.{doc, no_doc, has_newline, read_byte, read_text, reads, decode}
 use Rattle.doc.specs.Nodes.{spells, laid, Spelled, RowOf, refusal_number, node}
+use Rattle.doc.specs.Tags.{byte_of}
+use Rattle.doc.specs.declared.tag.Tag.{Tag}
 use Rattle.doc.specs.declared.node.Kind.TheVariants.{Nil}
 use Rattle.doc.specs.declared.node.Node.{Node}
 use Rattle.doc.specs.declared.node.ReadError.{ReadError}
@@ -21,6 +23,10 @@ TextAt s at r =
 abbrev pub NotRead : List ℕ → ℕ → Type 0
 NotRead s at = (n : ℕ) → length s < at + n → reads n (drop at s) ≡ no_doc
 
+-- the tag of the document that begins at a position, or none where none begins
+abbrev pub TagAt : List ℕ → ℕ → Option Tag → Type 0
+TagAt s at r = MatchOption r (NotRead s at) (λ t. (at < length s) × (slice_index s at ≡ byte_of t))
+
 -- a document stands in s from a position to the next, and its nodes were added to a row
 pub record ReadOn (s : List ℕ) (at : ℕ) (old new : List Node) (next : ℕ) : Type 0 where
   pub what : Doc
@@ -33,6 +39,10 @@ pub record ReadOn (s : List ℕ) (at : ℕ) (old new : List Node) (next : ℕ) :
 -- what reading one document answers: where it ends, if there is one
 abbrev pub ReadsOn : List ℕ → ℕ → (old new : List Node) → Option ℕ → Type 0
 ReadsOn s at old new r = MatchOption r (NotRead s at) (ReadOn s at old new)
+
+-- the bytes are a document, and the row is its own; or they are none
+abbrev pub ReadsWhole : List ℕ → List Node → Option (Unit {0}) → Type 0
+ReadsWhole s row r = MatchOption r (decode s ≡ None) (λ _. RowOf s row)
 
 -- reading answers a row exactly where the bytes are a document; otherwise it refuses, and the row is empty
 abbrev pub ReadSays : List ℕ → List Node → Result (Unit {0}) ReadError → Type 0

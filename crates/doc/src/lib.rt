@@ -4,4 +4,6 @@
 pub mod laws;
 pub mod node;
 pub mod nodes;
-mod reader;
+pub mod reader;
+pub mod reserved;
+pub mod tag;

@@ -1,8 +1,11 @@
-// One node of a document. A document is a row of nodes, each before its parts.
-#[derive(Clone, Copy)]
+// One node of a document. A document is a row of nodes, each before its parts: the project asks for this form, in memory that is taken once, where boxes would take some for each node.
+use std::error::Error;
+use std::fmt;
+
+#[derive(Clone, Copy, Debug, PartialEq, Eq)]
 pub enum Kind {
     Nil,
-    // Where its first byte stands in the encoding, and how many there are.
+    // Where its first byte stands in the encoding, and how many there are; a slice would tie the row, which serves one document after the other, to the first one's bytes.
     Text(u32, u8),
     // Two parts, one behind the other.
     Cat,
@@ -12,7 +15,7 @@ pub enum Kind {
     Group,
 }
 
-#[derive(Clone, Copy)]
+#[derive(Clone, Copy, Debug, PartialEq, Eq)]
 pub struct Node {
     pub kind: Kind,
     // The index behind its last part.
@@ -20,7 +23,15 @@ pub struct Node {
 }
 
 // What was asked to be read is no encoded document, or is longer than one may be.
-#[derive(Clone, Copy)]
+#[derive(Clone, Copy, Debug, PartialEq, Eq)]
 pub enum ReadError {
     NotDocument,
 }
+
+impl fmt::Display for ReadError {
+    fn fmt<W: fmt::Write>(&self, f: &mut fmt::Formatter<W>) -> fmt::Result {
+        f.write_str("no document is encoded so")
+    }
+}
+
+impl Error for ReadError {}

@@ -2,12 +2,14 @@
 ghost use Rattle.std.specs.Prelude.{◌≡◌, ◌+◌, ◌<◌, ◌≤◌, [], ◌∷◌, ◌++◌, length};
 ghost use Rattle.doc.specs.Encoding.{has_newline};
 ghost use Rattle.doc.specs.Nodes.{node};
-ghost use Rattle.doc.specs.Reading.{ByteAt, TextAt, ReadsOn, ReadSays, closed};
+ghost use Rattle.doc.specs.Reading.{ByteAt, TagAt, TextAt, ReadsOn, ReadSays, ReadsWhole, closed};
 
 use crate::node::{Kind, Node, ReadError};
 use crate::nodes::{MOST_BYTES, Nodes};
+use crate::tag::Tag;
 
-const NEWLINE: u8 = 10;
+// The byte that ends a line, which no text has.
+pub const NEWLINE: u8 = b'\n';
 
 fn has_newline(text: &[u8]) -> bool
     ensures { result ≡ has_newline text.now }
@@ -19,6 +21,7 @@ fn has_newline(text: &[u8]) -> bool
 #[derive(Clone, Copy)]
 struct Source<'a> {
     bytes: &'a [u8],
+    ghost few: { length bytes.now ≤ 65536 },
 }
 
 impl Source<'_> {
@@ -28,16 +31,20 @@ impl Source<'_> {
         self.bytes.get(at).copied()
     }
 
+    // What the document at a position begins with.
+    fn tag(&self, at: usize) -> Option<Tag>
+        ensures { TagAt self.now.bytes.now at result }
+    {
+        Tag::try_from(self.byte(at)?).ok()
+    }
+
     // How long the text is whose length stands at a position.
     fn text(&self, at: usize) -> Option<u8>
-        requires { length self.now.bytes.now ≤ 65536 }
         ensures { TextAt self.now.bytes.now at result }
     {
-        let Some(len) = self.byte(at) else {
-            return None;
-        };
+        let len = self.byte(at)?;
         let start = at + 1;
-        let end = start + len as usize;
+        let end = start + usize::from(len);
         if self.bytes.len() < end {
             return None;
         }
@@ -51,103 +58,92 @@ impl Source<'_> {
 impl Nodes {
     // Adds a node with no parts yet, and answers where it stands.
     fn add(&mut self, kind: Kind) -> usize
-        requires { length self.old.row.items < 65536 }
-        ensures place { result ≡ length self.old.row.items }
-        ensures items { self.new.row.items ≡ self.old.row.items ++ node kind (length self.old.row.items + 1) ∷ [] }
+        requires { length self.old.row < 65536 }
+        ensures place { result ≡ length self.old.row }
+        ensures items { self.new.row ≡ self.old.row ++ node kind (length self.old.row + 1) ∷ [] }
     {
         let place = self.row.len();
         let end = (place + 1) as u32;
-        self.row.push_reserved(Node { kind, end });
+        self.row.push(Node { kind, end });
         place
     }
 
     // Ends a node behind all that was added after it.
     fn close(&mut self, place: usize)
-        requires within { place < length self.old.row.items }
-        requires few { length self.old.row.items ≤ 65536 }
-        ensures { self.new.row.items ≡ closed self.old.row.items place }
+        requires { place < length self.old.row }
+        ensures { self.new.row ≡ closed self.old.row place }
     {
         let end = self.row.len() as u32;
-        let kind = self.row[place].kind;
-        self.row[place] = Node { kind, end };
+        self.row.as_mut_slice()[place].end = end;
     }
 
     // Adds the nodes of the document that begins at a position, and answers where it ends.
     fn document(&mut self, source: &Source, at: usize) -> Option<usize>
-        requires few { length source.now.bytes.now ≤ 65536 }
-        requires fewer { length self.old.row.items ≤ at }
-        ensures { ReadsOn source.now.bytes.now at self.old.row.items self.new.row.items result }
+        requires { length self.old.row ≤ at }
+        ensures { ReadsOn source.now.bytes.now at self.old.row self.new.row result }
     {
-        let Some(tag) = source.byte(at) else {
-            return None;
-        };
-        match tag {
-            0 => {
+        match source.tag(at)? {
+            Tag::Nil => {
                 self.add(Kind::Nil);
                 Some(at + 1)
             }
-            1 => {
-                let Some(len) = source.text(at + 1) else {
-                    return None;
-                };
+            Tag::Text => {
+                let len = source.text(at + 1)?;
                 self.add(Kind::Text((at + 2) as u32, len));
-                Some(at + 2 + len as usize)
+                Some(at + 2 + usize::from(len))
             }
-            2 => {
+            Tag::Cat => {
                 let place = self.add(Kind::Cat);
-                let Some(middle) = self.document(source, at + 1) else {
-                    return None;
-                };
-                let Some(end) = self.document(source, middle) else {
-                    return None;
-                };
+                let middle = self.document(source, at + 1)?;
+                let end = self.document(source, middle)?;
                 self.close(place);
                 Some(end)
             }
-            3 => {
-                let Some(k) = source.byte(at + 1) else {
-                    return None;
-                };
+            Tag::Nest => {
+                let k = source.byte(at + 1)?;
                 let place = self.add(Kind::Nest(k));
-                let Some(end) = self.document(source, at + 2) else {
-                    return None;
-                };
+                let end = self.document(source, at + 2)?;
                 self.close(place);
                 Some(end)
             }
-            4 => {
+            Tag::Line => {
                 self.add(Kind::Line);
                 Some(at + 1)
             }
-            5 => {
+            Tag::Group => {
                 let place = self.add(Kind::Group);
-                let Some(end) = self.document(source, at + 1) else {
-                    return None;
-                };
+                let end = self.document(source, at + 1)?;
                 self.close(place);
                 Some(end)
             }
-            _ => None,
         }
+    }
+
+    // Reads an encoding to its end into an empty row, if it is a document.
+    fn whole(&mut self, spelled: &[u8]) -> Option<()>
+        requires { self.old.row ≡ [] }
+        ensures { ReadsWhole spelled.now self.new.row result }
+    {
+        if spelled.len() > MOST_BYTES {
+            return None;
+        }
+        let source = Source { bytes: spelled };
+        let end = self.document(&source, 0)?;
+        if end < spelled.len() {
+            return None;
+        }
+        Some(())
     }
 
     // Reads an encoding to its end. The row is then the document's, and empty where there is none.
     pub fn read(&mut self, spelled: &[u8]) -> Result<(), ReadError>
-        ensures { ReadSays spelled.now self.new.row.items result }
+        ensures { ReadSays spelled.now self.new.row result }
     {
         self.row.clear();
-        if spelled.len() > MOST_BYTES {
-            return Err(ReadError::NotDocument);
-        }
-        let source = Source { bytes: spelled };
-        let Some(end) = self.document(&source, 0) else {
+        let read = self.whole(spelled);
+        if read.is_none() {
             self.row.clear();
-            return Err(ReadError::NotDocument);
-        };
-        if end < spelled.len() {
-            self.row.clear();
-            return Err(ReadError::NotDocument);
         }
-        Ok(())
+        read.ok_or(ReadError::NotDocument)
     }
 }

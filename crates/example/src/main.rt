@@ -1,9 +1,6 @@
 // example: how another crate lays out a document with the library. It prints one document at two widths.
 #![tactic(auto)]
 
-use anyhow::anyhow;
-use layout::entry::set;
-use layout::reply::Reply;
 use layout::workspace::Workspace;
 use std::io::Write;
 
@@ -12,15 +9,10 @@ const DOCUMENT: &[u8; 20] = b"\x02\x01\x04aaaa\x02\x05\x02\x04\x01\x01b\x01\x04c
 
 fn print(rt: &HostRuntime, room: &mut Workspace, width: u64) -> anyhow::Result<()> {
     let mut out = [0u8; 64];
-    match set(room, DOCUMENT, width, &mut out) {
-        Reply::Lines(n) => {
-            let len = Reply::Lines(n).length().min(out.len());
-            rt.stdout().write_all(&out[0..len])?;
-            println!(rt; "")?;
-            Ok(())
-        }
-        Reply::Refused(_) => Err(anyhow!("refused")),
-    }
+    let laid = room.lay_out(DOCUMENT, width, &mut out)?;
+    rt.stdout().write_all(&out[..laid.length])?;
+    println!(rt; "")?;
+    Ok(())
 }
 
 fn main(rt: HostRuntime) -> anyhow::Result<()> {

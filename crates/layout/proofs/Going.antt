@@ -1,5 +1,5 @@
 -- What each step of the search does to what it holds. Assumes nothing.
-use Rattle.std.proofs.Common.{◌≡◌, ℕ, suc, ◌+◌, ◌-◌, ◌*◌, ◌<◌, ◌≤◌, Bool, List, [], ◌++◌, length, get_or, take, drop, replicate, vec_items, vec_len, sym, refl, ap, ◌∙◌, subst, append_assoc, append-nil, add_comm, add-one, arith, length-append}
+use Rattle.std.proofs.Common.{◌≡◌, ℕ, suc, ◌+◌, ◌-◌, ◌*◌, ◌<◌, ◌≤◌, Bool, List, [], ◌++◌, length, get_or, take, drop, replicate, sym, refl, ap, ◌∙◌, subst, append_assoc, append-nil, add_comm, add-one, arith, length-append}
 use Rattle.std.proofs.lemmas.List.{take_at, drop_at, take_rest}
 use Rattle.doc.specs.Doc.{Doc, nil, text, cat, nest, line, group}
 use Rattle.doc.specs.Nodes.{size, spells}
@@ -22,10 +22,10 @@ use Rattle.layout.specs.Searching.{Quest, Found, Saved, Merged, Merges}
 use Rattle.layout.specs.declared.search.Search.{Search}
 
 -- a row of nothing, filled anew
-pub begun : (w len : ℕ) (old new : List Cost) → old ≡ [] → len ≡ 0 → new ≡ take (w + 1) old ++ replicate (w + 1 - len) no_cost → new ≡ replicate (suc w) no_cost
-begun w len old new e l is =
-    let n : w + 1 - len ≡ suc w = omega arith in
-    is ∙ (λ i. take (add-one w i) (e i) ++ replicate (n i) no_cost)
+pub begun : (w long : ℕ) (old new : List Cost) (nothing : Cost) → long ≡ w + 1 → old ≡ [] → nothing ≡ no_cost → new ≡ take long old ++ replicate (long - length old) nothing → new ≡ replicate (suc w) no_cost
+begun w long old new nothing o e f is =
+    let n : long - length old ≡ suc w = omega (arith, ap length e) in
+    is ∙ (λ i. take ((o ∙ add-one w) i) (e i) ++ replicate (n i) (f i))
 
 -- the row of a line that ends
 pub line_row : (w to : ℕ) (row read lent after : List Cost) (at cost : Cost) → read ≡ row → lent ≡ row → length row ≡ w + 1 → at ≡ along read to → cost ≡ line_more at → after ≡ replicate (length lent) cost → after ≡ replicate (suc w) (line_more (along row to))
@@ -108,14 +108,13 @@ Finds ns at indent v u = (d : Doc) (p : ℕ) → Stands ns d p at → Found d in
 
 -- there is room for what a document needs
 abbrev Roomy : Search → ℕ → Doc → Type 0 → Type 0
-Roomy v at d X = v.flat + 255 * (at + size d) ≤ 16711680 → vec_len v.notes + 256 * (at + size d) ≤ 16777216 → X
+Roomy v at d X = v.flat + 255 * (at + size d) ≤ 16711680 → length v.notes + 256 * (at + size d) ≤ 16777216 → X
 
 -- what the search holds when a group's part was gone through
 pub record Ready (v u : Search) : Type 0 where
   pub further : v.flat ≤ u.flat
-  pub kept : u.width + 1 ≤ vec_len u.saved
-  pub room : vec_len u.notes + 256 ≤ 16777216
-  pub near : u.offset ≤ u.flat
+  pub kept : u.width + 1 ≤ length u.saved
+  pub room : length u.notes + 256 ≤ 16777216
   pub short : u.flat ≤ 16711680
 
 -- a search that is asked for what stands at a node can be asked for its parts
@@ -145,7 +144,6 @@ module _ (ns : List Node) (at indent : ℕ) (v : Search) (q : Quest ns at indent
             stands = subst (Stands ns b (q.from + 1 + spells a)) (sym is) hb;
             few = q.few;
             shallow = omega (arith, q.shallow);
-            near = q.near;
             short = omega arith;
             deep = omega (arith, q.deep);
             many = omega arith;
@@ -165,9 +163,8 @@ module _ (ns : List Node) (at indent : ℕ) (v : Search) (q : Quest ns at indent
             stands = ha;
             few = q.few;
             shallow = omega (arith, q.shallow);
-            near = found.near;
             short = omega (arith, found.longer, flat_short ns b _ _ hb);
-            deep = omega (arith, q.deep, ap length found.same_saved, v.saved.ok.0, u.saved.ok.0);
+            deep = omega (arith, q.deep, ap length found.same_saved);
             many = omega (arith, found.more);
           })
           q.short q.many
@@ -183,23 +180,22 @@ module _ (ns : List Node) (at indent : ℕ) (v : Search) (q : Quest ns at indent
         stands = ha;
         few = q.few;
         shallow = omega (arith, q.shallow);
-        near = q.near;
         short = omega arith;
         deep = omega (arith, q.deep);
         many = omega arith;
       })
       q.short q.many
 
-  pub room_to_save : vec_len v.saved + 256 ≤ 16777216
+  pub room_to_save : length v.saved + 256 ≤ 16777216
   room_to_save = omega (arith, q.deep, q.few, within)
 
   -- a group is entered, and its row was kept
   module _ (kind : (get_or ns at no_node).kind ≡ Group) (m : Search) (s : Saved v m) where
-    saved_more : vec_len m.saved ≡ vec_len v.saved + (v.width + 1)
-    saved_more = omega (arith, ap length s.saved_is ∙ length-append (vec_items v.saved) (vec_items v.row), m.saved.ok.0, v.saved.ok.0, v.row.ok.0, v.long)
+    saved_more : length m.saved ≡ length v.saved + (v.width + 1)
+    saved_more = omega (arith, ap length s.saved_is ∙ length-append v.saved v.row, v.long)
 
-    notes_same : vec_len m.notes ≡ vec_len v.notes
-    notes_same = omega (arith, ap length s.same_notes, m.notes.ok.0, v.notes.ok.0)
+    notes_same : length m.notes ≡ length v.notes
+    notes_same = omega (arith, ap length s.same_notes)
 
     pub group_quest : Quest ns (at + 1) indent m
     unfolding size
@@ -212,9 +208,8 @@ module _ (ns : List Node) (at indent : ℕ) (v : Search) (q : Quest ns at indent
           stands = ha;
           few = q.few;
           shallow = omega (arith, q.shallow);
-          near = omega (arith, q.near, s.same_offset, s.same_flat);
           short = omega (arith, s.same_flat);
-          deep = omega (arith, q.deep, saved_more, v.narrow);
+          deep = omega (arith, q.deep, saved_more, v.long, v.few);
           many = omega (arith, notes_same);
         })
         q.short q.many
@@ -227,9 +222,8 @@ module _ (ns : List Node) (at indent : ℕ) (v : Search) (q : Quest ns at indent
         let found : Found a indent m u = f a _ ha in
         record {
           further = omega (arith, found.longer, s.same_flat);
-          kept = omega (arith, found.same_width, s.same_width, ap length found.same_saved, m.saved.ok.0, u.saved.ok.0, saved_more);
+          kept = omega (arith, found.same_width, s.same_width, ap length found.same_saved, saved_more);
           room = omega (arith, found.more, notes_same);
-          near = found.near;
           short = omega (arith, found.longer, s.same_flat, flat_short ns a _ _ ha);
         })
         q.short q.many
@@ -245,36 +239,34 @@ from_same Q w w' offset offset' row row' e r o f =
 
 -- what is found at a node
 module _ (ns : List Node) (at indent : ℕ) (v u : Search) where
-  pub nil_found : (get_or ns at no_node).kind ≡ Nil → v.offset ≤ v.flat → u.width ≡ v.width → vec_items u.saved ≡ vec_items v.saved → vec_items u.notes ≡ vec_items v.notes → vec_items u.row ≡ vec_items v.row → u.offset ≡ v.offset → u.flat ≡ v.flat → Finds ns at indent v u
+  pub nil_found : (get_or ns at no_node).kind ≡ Nil → u.width ≡ v.width → u.saved ≡ v.saved → u.notes ≡ v.notes → u.row ≡ v.row → u.offset ≡ v.offset → u.flat ≡ v.flat → Finds ns at indent v u
   unfolding flat_length size to_go notes
-  nil_found kind near w s n r o l d p h =
+  nil_found kind w s n r o l d p h =
       as_nil ns at d p h (λ x. Found x indent v u) kind
       record {
         same_width = w;
         same_saved = s;
         longer = omega arith;
-        near = omega arith;
-        more = omega (arith, ap length n, v.notes.ok.0, u.notes.ok.0);
+        more = omega (arith, ap length n);
         tells = λ k _ t. tells_same r o t;
         noted = λ k _ _. n ∙ sym (append-nil _);
       }
 
-  pub text_found : (start len : ℕ) → (get_or ns at no_node).kind ≡ Text start len → v.offset ≤ v.flat → u.width ≡ v.width → vec_items u.saved ≡ vec_items v.saved → vec_items u.notes ≡ vec_items v.notes → vec_items u.row ≡ vec_items v.row → u.offset ≡ v.offset + len → u.flat ≡ v.flat + len → Finds ns at indent v u
+  pub text_found : (start len : ℕ) → (get_or ns at no_node).kind ≡ Text start len → u.width ≡ v.width → u.saved ≡ v.saved → u.notes ≡ v.notes → u.row ≡ v.row → u.offset ≡ v.offset + len → u.flat ≡ v.flat + len → Finds ns at indent v u
   unfolding flat_length size to_go notes
-  text_found start len kind near w s n r o l d p h =
+  text_found start len kind w s n r o l d p h =
       as_text ns at d p h (λ x. Found x indent v u) start len kind
       (λ t e.
       record {
         same_width = w;
         same_saved = s;
         longer = omega arith;
-        near = omega arith;
-        more = omega (arith, ap length n, v.notes.ok.0, u.notes.ok.0);
+        more = omega (arith, ap length n);
         tells = λ k _ b. tells_same r (o ∙ ap (λ x. v.offset + x) e) (tells_text b t);
         noted = λ k _ _. n ∙ sym (append-nil _);
       })
 
-  pub line_found : (get_or ns at no_node).kind ≡ Line → u.width ≡ v.width → vec_items u.saved ≡ vec_items v.saved → vec_items u.notes ≡ vec_items v.notes → vec_items u.row ≡ replicate (suc v.width) (line_more (along (vec_items v.row) (indent + v.offset))) → u.offset ≡ 0 → u.flat ≡ v.flat + 1 → Finds ns at indent v u
+  pub line_found : (get_or ns at no_node).kind ≡ Line → u.width ≡ v.width → u.saved ≡ v.saved → u.notes ≡ v.notes → u.row ≡ replicate (suc v.width) (line_more (along v.row (indent + v.offset))) → u.offset ≡ 0 → u.flat ≡ v.flat + 1 → Finds ns at indent v u
   unfolding flat_length size to_go notes
   line_found kind w s n r o l d p h =
       as_line ns at d p h (λ x. Found x indent v u) kind
@@ -282,8 +274,7 @@ module _ (ns : List Node) (at indent : ℕ) (v u : Search) where
         same_width = w;
         same_saved = s;
         longer = l;
-        near = omega arith;
-        more = omega (arith, ap length n, v.notes.ok.0, u.notes.ok.0);
+        more = omega (arith, ap length n);
         tells = λ k _ b. tells_same r o (tells_line b indent);
         noted = λ k _ _. n ∙ sym (append-nil _);
       }
@@ -298,7 +289,6 @@ module _ (ns : List Node) (at indent : ℕ) (v u : Search) where
         same_width = found.same_width;
         same_saved = found.same_saved;
         longer = found.longer;
-        near = found.near;
         more = omega (arith, found.more);
         tells = λ k l t. found.tells k l t;
         noted = λ k l t. found.noted k l t;
@@ -314,54 +304,52 @@ module _ (ns : List Node) (at indent : ℕ) (v u : Search) where
       let behind : Found b indent v m = fb b (p + 1 + spells a) (subst (Stands ns b (p + 1 + spells a)) (sym is) hb) in
       let before : Found a indent m u = fa a _ ha in
       let w : ℕ = v.width in
-      let tells : (k : ℕ → Layout) → Level w k → Tells w (vec_items m.row) m.offset k → Tells w (vec_items u.row) u.offset (to_go w a indent Broken k) =
-      from_same (λ x k. Tells x (vec_items u.row) u.offset (to_go x a indent Broken k)) w m.width _ _ _ _ behind.same_width refl refl before.tells in
-      let noted : (k : ℕ → Layout) → Level w k → Tells w (vec_items m.row) m.offset k → vec_items u.notes ≡ vec_items m.notes ++ notes w a indent k =
-      from_same (λ x k. vec_items u.notes ≡ vec_items m.notes ++ notes x a indent k) w m.width _ _ _ _ behind.same_width refl refl before.noted in
+      let tells : (k : ℕ → Layout) → Level w k → Tells w m.row m.offset k → Tells w u.row u.offset (to_go w a indent Broken k) =
+      from_same (λ x k. Tells x u.row u.offset (to_go x a indent Broken k)) w m.width _ _ _ _ behind.same_width refl refl before.tells in
+      let noted : (k : ℕ → Layout) → Level w k → Tells w m.row m.offset k → u.notes ≡ m.notes ++ notes w a indent k =
+      from_same (λ x k. u.notes ≡ m.notes ++ notes x a indent k) w m.width _ _ _ _ behind.same_width refl refl before.noted in
       record {
         same_width = before.same_width ∙ behind.same_width;
         same_saved = before.same_saved ∙ behind.same_saved;
         longer = omega (arith, before.longer, behind.longer);
-        near = before.near;
         more = omega (arith, before.more, behind.more);
         tells = λ k l t. tells (to_go w b indent Broken k) (level_to_go w b indent Broken k l) (behind.tells k l t);
         noted = λ k l t.
             noted (to_go w b indent Broken k) (level_to_go w b indent Broken k l) (behind.tells k l t)
             ∙ ap (λ x. x ++ notes w a indent (to_go w b indent Broken k)) (behind.noted k l t)
-            ∙ append_assoc (vec_items v.notes) (notes w b indent k) (notes w a indent (to_go w b indent Broken k));
+            ∙ append_assoc v.notes (notes w b indent k) (notes w a indent (to_go w b indent Broken k));
       })
 
   -- its row kept, its part gone through, and the rows merged
-  pub group_found : (m n : Search) (reach : ℕ) → (get_or ns at no_node).kind ≡ Group → v.offset ≤ v.flat → Saved v m → Finds ns (at + 1) indent m n → reach ≡ n.flat - (v.flat - v.offset) → Merges n reach u → Finds ns at indent v u
+  pub group_found : (m n : Search) (reach : ℕ) → (get_or ns at no_node).kind ≡ Group → Saved v m → Finds ns (at + 1) indent m n → reach ≡ n.flat - (v.flat - v.offset) → Merges n reach u → Finds ns at indent v u
   unfolding flat_length size to_go notes
-  group_found m n reach kind near s f re g d p h =
+  group_found m n reach kind s f re g d p h =
       as_group ns at d p h (λ x. Found x indent v u) kind
       (λ a ha.
       let found : Found a indent m n = f a _ ha in
       let w : ℕ = v.width in
       let wn : n.width ≡ w = found.same_width ∙ s.same_width in
-      let merged : Merged (vec_items v.saved) (vec_items v.row) n reach u =
-      g (vec_items v.saved) (vec_items v.row) (found.same_saved ∙ s.saved_is) (omega (arith, v.row.ok.0, v.long)) in
-      let longer : length (vec_items u.notes) ≡ length (vec_items n.notes) + suc n.width =
-      ap length merged.notes_are ∙ length-append (vec_items n.notes) _ ∙ ap (λ x. length (vec_items n.notes) + x) (length_below _ (suc n.width)) in
-      let far : reach ≡ v.offset + flat_length a = omega (arith, found.longer, s.same_flat) in
-      let tells : (k : ℕ → Layout) → Level w k → Tells w (vec_items v.row) v.offset k → Tells w (vec_items n.row) n.offset (to_go w a indent Broken k) =
-      from_same (λ x k. Tells x (vec_items n.row) n.offset (to_go x a indent Broken k)) w m.width _ _ _ _ s.same_width s.same_row s.same_offset found.tells in
-      let noted : (k : ℕ → Layout) → Level w k → Tells w (vec_items v.row) v.offset k → vec_items n.notes ≡ vec_items m.notes ++ notes w a indent k =
-      from_same (λ x k. vec_items n.notes ≡ vec_items m.notes ++ notes x a indent k) w m.width _ _ _ _ s.same_width s.same_row s.same_offset found.noted in
+      let merged : Merged v.saved v.row n reach u =
+      g v.saved v.row (found.same_saved ∙ s.saved_is) (omega (arith, v.long)) in
+      let longer : length u.notes ≡ length n.notes + suc n.width =
+      ap length merged.notes_are ∙ length-append n.notes _ ∙ ap (λ x. length n.notes + x) (length_below _ (suc n.width)) in
+      let far : reach ≡ v.offset + flat_length a = omega (arith, v.near, found.longer, s.same_flat) in
+      let tells : (k : ℕ → Layout) → Level w k → Tells w v.row v.offset k → Tells w n.row n.offset (to_go w a indent Broken k) =
+      from_same (λ x k. Tells x n.row n.offset (to_go x a indent Broken k)) w m.width _ _ _ _ s.same_width s.same_row s.same_offset found.tells in
+      let noted : (k : ℕ → Layout) → Level w k → Tells w v.row v.offset k → n.notes ≡ m.notes ++ notes w a indent k =
+      from_same (λ x k. n.notes ≡ m.notes ++ notes x a indent k) w m.width _ _ _ _ s.same_width s.same_row s.same_offset found.noted in
       record {
         same_width = merged.same_width ∙ wn;
         same_saved = merged.saved_is;
         longer = omega (arith, merged.same_flat, found.longer, s.same_flat);
-        near = omega (arith, merged.begins);
-        more = omega (arith, longer, found.more, n.narrow, ap length s.same_notes, u.notes.ok.0, n.notes.ok.0, m.notes.ok.0, v.notes.ok.0);
+        more = omega (arith, longer, found.more, n.long, n.few, ap length s.same_notes);
         tells = λ k l t.
             tells_same
-            (merged.row_is ∙ (λ i. below (λ c. cheaper (along (vec_items v.row) (c + far i)) (along (vec_items n.row) (c + n.offset))) (suc (wn i))))
+            (merged.row_is ∙ (λ i. below (λ c. cheaper (along v.row (c + far i)) (along n.row (c + n.offset))) (suc (wn i))))
             merged.begins (tells_group a indent t (tells k l t) l);
         noted = λ k l t.
             merged.notes_are
-            ∙ (λ i. (noted k l t ∙ ap (λ x. x ++ notes w a indent k) s.same_notes) i ++ below (λ c. beats (along (vec_items n.row) (c + n.offset)) (along (vec_items v.row) (c + far i))) (suc (wn i)))
-            ∙ ap (λ x. (vec_items v.notes ++ notes w a indent k) ++ x) (notes_group a indent t (tells k l t))
-            ∙ append_assoc (vec_items v.notes) (notes w a indent k) _;
+            ∙ (λ i. (noted k l t ∙ ap (λ x. x ++ notes w a indent k) s.same_notes) i ++ below (λ c. beats (along n.row (c + n.offset)) (along v.row (c + far i))) (suc (wn i)))
+            ∙ ap (λ x. (v.notes ++ notes w a indent k) ++ x) (notes_group a indent t (tells k l t))
+            ∙ append_assoc v.notes (notes w a indent k) _;
       })

@@ -1,10 +1,14 @@
 -- What the entry answers, and what it leaves in the output buffer. Assumes nothing: these are definitions.
-use Rattle.std.specs.Prelude.{◌≡◌, ℕ, zero, suc, ◌+◌, ◌*◌, ◌/◌, ◌%◌, ◌<◌, ◌≤◌, cond, List, ◌++◌, length, drop, Some, None, Option, MatchOption, nat_le}
+use Rattle.std.specs.Prelude.{◌≡◌, ℕ, zero, suc, ◌+◌, ◌*◌, ◌/◌, ◌%◌, ◌<◌, ◌≤◌, cond, List, ◌++◌, length, drop, Some, None, Option, nat_le, Ok, Err, Result, MatchResult, IsOkAnd, IsErrAnd, codes}
+use Rattle.std.specs.Fmt.{decimal}
 use Rattle.std.specs.Option.{unwrap_or}
 use Rattle.doc.specs.Doc.{Doc, nil}
 use Rattle.doc.specs.Encoding.{decode}
 use Rattle.cost.specs.Layout.{Layout}
 use Rattle.cost.specs.Best.{best}
+use Rattle.layout.specs.declared.laid.Laid.{Laid}
+use Rattle.layout.specs.declared.refusal.Refusal.{Refusal}
+use Rattle.layout.specs.declared.refusal.Refusal.TheVariants.{NotDocument, TooWide, TooLong, NoRoom}
 use Rattle.layout.specs.declared.reply.Reply.{Reply}
 use Rattle.layout.specs.declared.reply.Reply.TheVariants.{Lines, Refused}
 
@@ -25,6 +29,31 @@ refusal spelled width room = refusal_of width room (decode spelled)
 unfoldable pub the_best : (spelled : List ℕ) → (width : ℕ) → Layout
 the_best spelled width = best width (unwrap_or (decode spelled) nil)
 
+-- the number of a refusal
+abbrev pub refusal_number : Refusal → ℕ
+refusal_number NotDocument = 1
+refusal_number TooWide = 2
+refusal_number TooLong = 3
+refusal_number NoRoom = 4
+
+-- how a refusal is printed
+abbrev pub refusal_text : Refusal → List ℕ
+refusal_text e = codes "refused " ++ decimal (refusal_number e)
+
+-- with no refusal: how many lines ended and the layout's length, and the layout at the buffer's beginning, its rest as it was; otherwise the refusal of that number, and the buffer as it was
+abbrev pub LaysOut : (spelled : List ℕ) (width : ℕ) (out : List ℕ) → (refusal : ℕ) → Result Laid Refusal → (out₁ : List ℕ) → Type 0
+LaysOut spelled width out zero r out₁ =
+    IsOkAnd r (λ laid.
+    (laid.lines ≡ (the_best spelled width).lines)
+    × (laid.length ≡ length (the_best spelled width).out)
+    × (out₁ ≡ (the_best spelled width).out ++ drop (length (the_best spelled width).out) out))
+LaysOut spelled width out (suc k) r out₁ = IsErrAnd r (λ e. (refusal_number e ≡ suc k) × (out₁ ≡ out))
+
+-- an answer packed in a number: how many lines ended times 2^32 and the layout's length, or the refusal's number
+abbrev pub reply_of : Result Laid Refusal → Reply
+reply_of (Ok laid) = Lines (laid.lines * 4294967296 + laid.length)
+reply_of (Err e) = Refused (refusal_number e)
+
 -- how long the layout is that an answer tells of
 abbrev pub reply_length : Reply → ℕ
 reply_length (Lines n) = n % 4294967296
@@ -42,8 +71,9 @@ SetSays spelled width out zero r out₁ =
     × (out₁ ≡ (the_best spelled width).out ++ drop (length (the_best spelled width).out) out)
 SetSays spelled width out (suc k) r out₁ = (r ≡ Refused (suc k)) × (out₁ ≡ out)
 
--- laying out answers how many lines ended, and the writer has the best layout; or there is no answer, where that is too long
-abbrev pub LaidOut : (spelled : List ℕ) (width : ℕ) → (written : List ℕ) → Option ℕ → Type 0
+-- the best layout was written, and what is answered is how many lines ended; or it is too long
+abbrev pub LaidOut : {E : Type 0} → (spelled : List ℕ) (width : ℕ) → (written : List ℕ) → Result ℕ E → Type 0
 LaidOut spelled width written r =
-    MatchOption r (131072 < length (the_best spelled width).out)
+    MatchResult r
     (λ n. (n ≡ (the_best spelled width).lines) × (n ≤ 131072) × (written ≡ (the_best spelled width).out) × (length written ≤ 131072))
+    (λ _. 131072 < length (the_best spelled width).out)

@@ -2,7 +2,9 @@
 #![tactic(auto)]
 
 pub mod entry;
+pub mod laid;
 mod plan;
+pub mod refusal;
 pub mod reply;
 mod search;
 mod searching;

@@ -5,7 +5,7 @@ use doc::node::Node;
 pub(crate) struct Plan<'a> {
     pub(crate) nodes: &'a [Node],
     pub(crate) source: &'a [u8],
-    // The decisions that the search has noted, the first group's last.
+    // The decisions that the search has noted, a row for each group, the first group's last.
     pub(crate) notes: &'a [bool],
-    pub(crate) width: usize,
+    pub(crate) width: u8,
 }

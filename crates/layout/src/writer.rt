@@ -1,51 +1,51 @@
 // The layout as it is written, in memory that is taken once for the longest one.
-ghost use Rattle.std.specs.Prelude.{◌≡◌, ◌≤◌, false, [], vec_len, vec_capacity};
+ghost use Rattle.std.specs.Prelude.{◌≤◌, length};
 
+use doc::reserved::Reserved;
 use std::alloc::{AllocError, Global};
 
 // A layout has at most so many bytes.
 pub const MOST_LAYOUT: usize = 131_072;
 
+// A layout is longer than that.
+#[derive(Clone, Copy, Debug)]
+pub(crate) struct Overlong;
+
 #[derive(Drop)]
 pub(crate) struct Writer {
-    pub(crate) out: Vec<u8>,
+    pub(crate) out: Reserved<u8, MOST_LAYOUT>,
     pub(crate) column: usize,
     pub(crate) lines: usize,
     // How many of the notes have not been used yet, from their beginning.
     pub(crate) left: usize,
-    // The layout is too long: nothing is written any more.
-    pub(crate) full: bool,
-    ghost room: { 131072 ≤ vec_capacity out },
-    ghost short: { vec_len out ≤ 131072 },
-    ghost inside: { column ≤ vec_len out },
-    ghost fewer: { lines ≤ vec_len out },
+    // As the type of the bytes says, for the lemmas that take a writer.
+    ghost short: { length out ≤ 131072 },
+    ghost inside: { column ≤ length out },
+    ghost fewer: { lines ≤ length out },
 }
 
 impl Writer {
+    ghost use Rattle.cost.specs.Layout.{empty};
+    ghost use Rattle.layout.specs.Writing.{Holds};
+
     // Nothing written yet, with room for any layout.
     pub(crate) fn new(heap: Global) -> Result<Writer, AllocError> {
-        let out = Vec::with_capacity(heap, MOST_LAYOUT)?;
+        let out = Reserved::new(heap)?;
         Ok(Writer {
             out,
             column: 0,
             lines: 0,
             left: 0,
-            full: false,
         })
     }
 
     // Begins a layout, by so many notes.
     pub(crate) fn begin(&mut self, left: usize)
-        ensures empty { self.new.out.items ≡ [] }
-        ensures column { self.new.column ≡ 0 }
-        ensures lines { self.new.lines ≡ 0 }
-        ensures left { self.new.left ≡ left }
-        ensures full { self.new.full ≡ false }
+        ensures { Holds self.new empty left }
     {
         self.column = 0;
         self.lines = 0;
         self.left = left;
-        self.full = false;
         self.out.clear();
     }
 }

@@ -1,26 +1,33 @@
-// What is wrong with a source, in words, and where.
-use calls::reader::Fault;
+// Where a fault is, in words.
+use std::fmt;
 
-// The line and the column of a byte, both counted from 1.
-pub fn place(source: &[u8], at: usize) -> (u64, u64) {
-    let mut line = 1u64;
-    let mut column = 1u64;
-    for byte in source.iter().take(at) {
-        if *byte == 10 {
-            line = line.saturating_add(1);
-            column = 1;
-        } else {
-            column = column.saturating_add(1);
-        }
-    }
-    (line, column)
+// Where a byte stands in a source. Lines and columns are counted from 1.
+#[derive(Clone, Copy)]
+pub struct Place {
+    line: usize,
+    column: usize,
 }
 
-pub fn describe(fault: Fault) -> &'static str {
-    match fault {
-        Fault::ClosesNothing(_) => "this bracket closes nothing, or another one than is open",
-        Fault::LeftOpen(_) => "this bracket is left open",
-        Fault::NoValue(_) => "a value is missing here",
-        Fault::Behind(_) => "something stands behind the value",
+impl Place {
+    // The place of a byte in a source, or of its end.
+    pub fn of(source: &[u8], at: usize) -> Place {
+        let before = &source[..at.min(source.len())];
+        let lines = before.iter().filter(|byte| **byte == b'\n').count();
+        let columns = before
+            .iter()
+            .rev()
+            .take_while(|byte| **byte != b'\n')
+            .count();
+        Place {
+            line: lines.saturating_add(1),
+            column: columns.saturating_add(1),
+        }
+    }
+}
+
+impl fmt::Display for Place {
+    fn fmt<W: fmt::Write>(&self, f: &mut fmt::Formatter<W>) -> fmt::Result {
+        let Place { line, column } = *self;
+        write!(f, "line {line}, column {column}")
     }
 }

@@ -1,11 +1,13 @@
 // setdoc: reads a width and an encoded document from standard input, and prints the best layout.
 #![tactic(auto)]
 
+ghost use Rattle.std.specs.Prelude.{◌≤◌, length, IfOk};
 ghost use Rattle.setdoc.specs.Input.{InputSays};
 
 use anyhow::anyhow;
-use layout::entry::{MOST_LAYOUT, NOT_DOCUMENT, set};
-use layout::reply::Reply;
+use layout::entry::MOST_LAYOUT;
+use layout::laid::Laid;
+use layout::refusal::Refusal;
 use layout::workspace::Workspace;
 use std::io::{Read, Write};
 
@@ -13,13 +15,14 @@ use std::io::{Read, Write};
 const MOST_INPUT: u64 = 65_538;
 
 // Lays out what was read: a byte that is the width, and an encoded document.
-fn lay_out(room: &mut Workspace, input: &[u8], out: &mut [u8]) -> Reply
-    ensures { InputSays input.now out.old result out.new }
+fn lay_out(room: &mut Workspace, input: &[u8], out: &mut [u8]) -> Result<Laid, Refusal>
+    ensures laid { InputSays input.now out.old result out.new }
+    ensures within { IfOk result (λ laid. laid.length ≤ length out.old) }
 {
     let Some((width, spelled)) = input.split_first() else {
-        return Reply::Refused(NOT_DOCUMENT);
+        return Err(Refusal::NotDocument);
     };
-    set(room, spelled, u64::from(*width), out)
+    room.lay_out(spelled, u64::from(*width), out)
 }
 
 fn main(rt: HostRuntime) -> anyhow::Result<()> {
@@ -28,15 +31,13 @@ fn main(rt: HostRuntime) -> anyhow::Result<()> {
     let mut input = Vec::new(heap);
     rt.stdin().take(MOST_INPUT).read_to_end(&mut input)?;
     let mut out = vec![in heap; 0u8; MOST_LAYOUT]?;
-    let reply = lay_out(&mut room, input.as_slice(), out.as_mut_slice());
-    match reply {
-        Reply::Lines(_) => {
-            let len = reply.length();
-            rt.stdout().write_all(&out.as_slice()[0..len])?;
+    match lay_out(&mut room, input.as_slice(), out.as_mut_slice()) {
+        Ok(laid) => {
+            rt.stdout().write_all(&out.as_slice()[..laid.length])?;
             Ok(())
         }
-        Reply::Refused(n) => {
-            println!(rt; "refused {n}")?;
+        Err(refusal) => {
+            println!(rt; "{refusal}")?;
             Err(anyhow!("refused"))
         }
     }

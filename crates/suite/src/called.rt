@@ -1,9 +1,9 @@
 // Calls: the worked one at each width, and what is wrong with a source, and where.
-use calls::call::{CallError, CallRoom};
+use calls::call::CallRoom;
 use calls::calling::set_call;
-use calls::reader::Fault;
+use calls::error::{CallError, Fault, FaultKind};
 use calls::rule::{DEFAULT, Rule};
-use layout::reply::Reply;
+use layout::refusal::Refusal;
 use std::test::*;
 
 const CALL: &str = "let(x, put(bread,\n\tslice(cheese, thin), salt))\n";
@@ -16,27 +16,13 @@ const INNER_FLAT: &str =
 const BROKEN: &str =
     "let(\n  x,\n  put(\n    bread,\n    slice(\n      cheese,\n      thin\n    ),\n    salt\n  )\n)";
 
-// What is wrong, by a letter, and where.
-fn letter(fault: Fault) -> (char, usize) {
-    match fault {
-        Fault::ClosesNothing(at) => ('c', at),
-        Fault::LeftOpen(at) => ('o', at),
-        Fault::NoValue(at) => ('v', at),
-        Fault::Behind(at) => ('b', at),
-    }
-}
-
-fn is_faulty(room: &mut CallRoom, source: &[u8], what: char, place: usize) -> Result<(), Fail> {
+fn is_faulty(room: &mut CallRoom, source: &[u8], fault: Fault) -> Result<(), Fail> {
     let mut out = [7u8; 4];
-    let reply = set_call(room, &DEFAULT, source, 80, &mut out);
-    let Err(CallError::Faulty(fault)) = reply else {
-        return Err(Fail::new(format_args!("not faulty: the bytes {source:?}")));
-    };
-    let (kind, at) = letter(fault);
-    if kind != what || at != place {
-        return Err(Fail::new(format_args!("fault {kind} at {at}: the bytes {source:?}")));
+    let answer = set_call(room, &DEFAULT, source, 80, &mut out);
+    if answer != Err(CallError::Faulty(fault)) {
+        return Err(Fail::new(format_args!("{answer:?}: the bytes {source:?}")));
     }
-    if out[0] != 7 {
+    if out != [7; 4] {
         return Err(Fail::new(format_args!("written: the bytes {source:?}")));
     }
     Ok(())
@@ -54,11 +40,9 @@ fn call_at_each_width(rt: HostRuntime) -> Result<(), Fail> {
     ];
     for (width, layout, lines) in cases {
         let mut out = [7u8; 120];
-        let Ok(reply) = set_call(&mut room, &DEFAULT, CALL.as_bytes(), width, &mut out) else {
-            return Err(Fail::new("faulty"));
-        };
-        assert_eq!(rt; reply.length(), layout.len());
-        assert_eq!(rt; reply.lines(), lines);
+        let laid = set_call(&mut room, &DEFAULT, CALL.as_bytes(), width, &mut out)?;
+        assert_eq!(rt; laid.length, layout.len());
+        assert_eq!(rt; laid.lines, lines);
         assert!(rt; out.starts_with(layout.as_bytes()));
     }
     Ok(())
@@ -69,21 +53,21 @@ fn call_at_each_width(rt: HostRuntime) -> Result<(), Fail> {
 fn faults(rt: HostRuntime) -> Result<(), Fail> {
     let mut room = CallRoom::new(rt.alloc())?;
     let cases = [
-        ("", 'v', 0),
-        ("   ", 'v', 3),
-        (")", 'c', 0),
-        ("f(a]", 'c', 3),
-        ("f(a))", 'c', 4),
-        ("f(a", 'o', 1),
-        ("f(a,(b", 'o', 4),
-        ("f(a,)", 'v', 4),
-        ("f(,a)", 'v', 2),
-        ("a b", 'b', 2),
-        ("a,", 'b', 1),
-        ("f(a b)", 'b', 4),
+        ("", FaultKind::NoValue, 0),
+        ("   ", FaultKind::NoValue, 3),
+        (")", FaultKind::ClosesNothing, 0),
+        ("f(a]", FaultKind::ClosesNothing, 3),
+        ("f(a))", FaultKind::ClosesNothing, 4),
+        ("f(a", FaultKind::LeftOpen, 1),
+        ("f(a,(b", FaultKind::LeftOpen, 4),
+        ("f(a,)", FaultKind::NoValue, 4),
+        ("f(,a)", FaultKind::NoValue, 2),
+        ("a b", FaultKind::Behind, 2),
+        ("a,", FaultKind::Behind, 1),
+        ("f(a b)", FaultKind::Behind, 4),
     ];
-    for (source, what, place) in cases {
-        is_faulty(&mut room, source.as_bytes(), what, place)?;
+    for (source, kind, at) in cases {
+        is_faulty(&mut room, source.as_bytes(), Fault { kind, at })?;
     }
     Ok(())
 }
@@ -107,11 +91,9 @@ fn ambiguous_rules(rt: HostRuntime) -> Result<(), Fail> {
         },
     ];
     let mut out = [7u8; 4];
-    let reply = set_call(&mut room, &rules, b"a", 80, &mut out);
-    let Err(CallError::Ambiguous) = reply else {
-        return Err(Fail::new("not ambiguous"));
-    };
-    assert_eq!(rt; out[0], 7);
+    let answer = set_call(&mut room, &rules, b"a", 80, &mut out);
+    assert_eq!(rt; answer, Err(CallError::Ambiguous));
+    assert_eq!(rt; out, [7; 4]);
     Ok(())
 }
 
@@ -121,14 +103,15 @@ fn deep_sources(rt: HostRuntime) -> Result<(), Fail> {
     let heap = rt.alloc();
     let mut room = CallRoom::new(heap)?;
     let mut source = vec![in heap; b'('; 60_000]?;
-    is_faulty(&mut room, source.as_slice(), 'o', 59_999)?;
+    let fault = Fault {
+        kind: FaultKind::LeftOpen,
+        at: 59_999,
+    };
+    is_faulty(&mut room, source.as_slice(), fault)?;
     source.resize(120_000, b')')?;
     let mut out = [7u8; 4];
-    let Ok(Reply::Refused(n)) = set_call(&mut room, &DEFAULT, source.as_slice(), 80, &mut out)
-    else {
-        return Err(Fail::new("not refused"));
-    };
-    assert_eq!(rt; n, 1);
+    let answer = set_call(&mut room, &DEFAULT, source.as_slice(), 80, &mut out);
+    assert_eq!(rt; answer, Err(CallError::Refused(Refusal::NotDocument)));
     Ok(())
 }
 
@@ -139,16 +122,29 @@ fn long_word(rt: HostRuntime) -> Result<(), Fail> {
     let mut room = CallRoom::new(heap)?;
     let source = vec![in heap; b'a'; 600]?;
     let mut out = vec![in heap; 7u8; 601]?;
-    let Ok(reply) = set_call(
+    let laid = set_call(
         &mut room,
         &DEFAULT,
         source.as_slice(),
         80,
         out.as_mut_slice(),
-    ) else {
-        return Err(Fail::new("faulty"));
-    };
-    assert_eq!(rt; reply.length(), 600);
+    )?;
+    assert_eq!(rt; laid.length, 600);
     assert!(rt; out.as_slice().starts_with(source.as_slice()));
+    Ok(())
+}
+
+// What is wrong is printed in words, and where by its byte.
+#[test]
+fn printed(rt: HostRuntime) -> Result<(), Fail> {
+    let heap = rt.alloc();
+    let kind = FaultKind::LeftOpen;
+    let faulty = CallError::Faulty(Fault { kind, at: 3 });
+    assert_eq!(rt;
+        faulty.to_string(heap)?.as_str(),
+        "byte 3: this bracket is left open"
+    );
+    let refused = CallError::Refused(Refusal::TooWide);
+    assert_eq!(rt; refused.to_string(heap)?.as_str(), "refused 2");
     Ok(())
 }

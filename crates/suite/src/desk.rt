@@ -1,4 +1,4 @@
-// A workspace and an output buffer, and what one call of the entry has to answer.
+// A workspace and an output buffer, and what one call of the entry `set` has to answer, whose numbers are a format and are tested as such.
 use layout::entry::set;
 use layout::reply::Reply;
 use layout::workspace::Workspace;
@@ -11,27 +11,29 @@ pub struct Desk {
     out: Vec<u8>,
 }
 
+// The byte that an output buffer is filled with.
+const FILLED: u8 = 7;
+
 // Each byte is still the one that the buffer was filled with.
 fn kept(bytes: &[u8]) -> Result<(), Fail> {
-    for b in bytes {
-        if *b != 7 {
-            return Err(Fail::new(format_args!("{b} was written where nothing is to be")));
-        }
+    match bytes.iter().find(|byte| **byte != FILLED) {
+        Some(byte) => Err(Fail::new(format_args!("{byte} was written where nothing is to be"))),
+        None => Ok(()),
     }
-    Ok(())
 }
 
 impl Desk {
     // An output buffer of so many bytes.
     pub fn new(heap: Global, len: usize) -> Result<Desk, AllocError> {
         let room = Workspace::new(heap)?;
-        let out = vec![in heap; 7u8; len]?;
+        let out = vec![in heap; FILLED; len]?;
         Ok(Desk { room, out })
     }
 
+    // Not by the calls of `compare`, which count what is wrong where a test fails.
     fn ask(&mut self, spelled: &[u8], width: u64) -> Reply {
         let out = self.out.as_mut_slice();
-        out.fill(7);
+        out.fill(FILLED);
         set(&mut self.room, spelled, width, out)
     }
 
@@ -44,14 +46,11 @@ impl Desk {
         lines: u64,
     ) -> Result<(), Fail> {
         let reply = self.ask(spelled, width);
-        if let Reply::Refused(n) = reply {
-            return Err(Fail::new(format_args!("refused with {n} at width {width}")));
-        }
-        if reply.length() != layout.len() {
-            return Err(Fail::new(format_args!("another length at width {width}")));
-        }
-        if reply.lines() != lines {
-            return Err(Fail::new(format_args!("another number of lines at width {width}")));
+        let told = matches!(reply, Reply::Lines(_))
+            && reply.lines() == lines
+            && reply.length() == layout.len();
+        if !told {
+            return Err(Fail::new(format_args!("{reply:?} at width {width}")));
         }
         let Some(behind) = self.out.as_slice().strip_prefix(layout) else {
             return Err(Fail::new(format_args!("another layout at width {width}")));
@@ -59,13 +58,11 @@ impl Desk {
         kept(behind)
     }
 
-    // The number of a refusal; all of the buffer is as it was.
+    // A refusal by its number, as the format that is tested here has it; all of the buffer is as it was.
     pub fn refuses(&mut self, spelled: &[u8], width: u64, number: u64) -> Result<(), Fail> {
-        let Reply::Refused(n) = self.ask(spelled, width) else {
-            return Err(Fail::new(format_args!("not refused: the bytes {spelled:?}")));
-        };
-        if n != number {
-            return Err(Fail::new(format_args!("refused with {n}: the bytes {spelled:?}")));
+        let reply = self.ask(spelled, width);
+        if reply != Reply::Refused(number) {
+            return Err(Fail::new(format_args!("{reply:?}: the bytes {spelled:?}")));
         }
         kept(self.out.as_slice())
     }

@@ -6,7 +6,7 @@ use std::alloc::{AllocError, Global};
 use std::test::*;
 
 // A text of one byte in front of the longest layout makes it one byte too long.
-const ONE_MORE: &[u8; 4] = b"\x02\x01\x01x";
+pub const ONE_MORE: &[u8; 4] = b"\x02\x01\x01x";
 
 // The layout of 512 lines nested by 255.
 pub fn longest(heap: Global) -> Result<Vec<u8>, AllocError> {

@@ -10,6 +10,8 @@ mod edges;
 #[cfg(test)]
 mod keeping;
 #[cfg(test)]
+mod laid;
+#[cfg(test)]
 mod refused;
 pub mod sample;
 #[cfg(test)]

@@ -1,4 +1,4 @@
-// Encoded documents that several tests lay out.
+// Encoded documents that several tests lay out, in bytes as docs/format.md has them and not by the library's tags: the encoding itself is tested.
 use std::alloc::{AllocError, Global};
 
 // The call of docs/format.md: `let x = put( bread, slice( cheese, thin ), salt )`, a line, `in x`.
@@ -25,9 +25,7 @@ pub fn groups(heap: Global, count: usize) -> Result<Vec<u8>, AllocError> {
 pub fn lines_behind(heap: Global, front: &[u8]) -> Result<Vec<u8>, AllocError> {
     let mut spelled = front.to_vec(heap)?;
     spelled.extend_from_slice(b"\x03\xff")?;
-    for _ in 0..511 {
-        spelled.extend_from_slice(b"\x02\x04")?;
-    }
+    spelled.extend_from_slice(b"\x02\x04".repeat(heap, 511)?.as_slice())?;
     spelled.push(4)?;
     Ok(spelled)
 }

@@ -1,7 +1,7 @@
 // The worked examples, and the row of a small document.
 use crate::desk::Desk;
 use crate::sample::{BEHIND, CALL};
-use doc::node::Kind;
+use doc::node::{Kind, Node};
 use doc::nodes::Nodes;
 use std::test::*;
 
@@ -41,13 +41,14 @@ fn looks_behind_a_group(rt: HostRuntime) -> Result<(), Fail> {
 #[test]
 fn row_of_nodes(rt: HostRuntime) -> Result<(), Fail> {
     let mut nodes = Nodes::new(rt.alloc())?;
-    assert!(rt; nodes.read(b"\x02\x01\x02ab\x05\x04").is_ok());
-    let [cat, text, group, line] = nodes.as_slice() else {
-        return Err(Fail::new("not four nodes"));
-    };
-    assert!(rt; matches!((cat.kind, cat.end), (Kind::Cat, 4)));
-    assert!(rt; matches!((text.kind, text.end), (Kind::Text(3, 2), 2)));
-    assert!(rt; matches!((group.kind, group.end), (Kind::Group, 4)));
-    assert!(rt; matches!((line.kind, line.end), (Kind::Line, 4)));
+    nodes.read(b"\x02\x01\x02ab\x05\x04")?;
+    let row = [
+        (Kind::Cat, 4),
+        (Kind::Text(3, 2), 2),
+        (Kind::Group, 4),
+        (Kind::Line, 4),
+    ];
+    let row = row.map(|(kind, end)| Node { kind, end });
+    assert_eq!(rt; nodes.as_slice(), row.as_slice());
     Ok(())
 }

@@ -1,4 +1,4 @@
-use Rattle.std.proofs.Common.{◌≡◌, ℕ, ◌+◌, ◌<◌, Bool, cond, List, length, vec_items, sym, ◌∙◌, arith}
+use Rattle.std.proofs.Common.{ap, length-append, ◌≡◌, ℕ, ◌+◌, ◌<◌, Bool, cond, List, length, sym, ◌∙◌, arith}
 use Rattle.std.proofs.lemmas.Bool.{cond-true, cond-false}
 use Rattle.cost.specs.Row.{along}
 use Rattle.cost.specs.declared.price.Cost.{Cost}
@@ -7,10 +7,10 @@ use Rattle.cost.proofs.row.merge.Goals as goal
 use Rattle.cost.proofs.row.merge.Goals.{then-better, else-better}
 
 pub loop-c-init : goal.loop-c-init
-loop-c-init c = (replaced_none _ _, none_below _ _, omega arith, omega arith)
+loop-c-init g c = (replaced_none _ _, none_below _ _, omega arith)
 
 pub loop-c-preserved : goal.loop-c-preserved
-loop-c-preserved c =
+loop-c-preserved g c =
     let old : List Cost = c.args.broken.now in
     let row : List Cost = c.loop-c.broken in
     let at : ℕ = c.loop-c.c in
@@ -31,14 +31,13 @@ loop-c-preserved c =
     let is : (best ≡ f at) × (better ≡ g at) =
     picked whole parted best _ _ better c.along-whole.ensures (c.along-parted.ensures ∙ unchanged) c.beats-better.ensures way in
     let note : better ≡ g at = is.1 in
-    let more = pushed_below g at (vec_items c.args.notes.now) in
-    (replaced_more f old at row best under is.0 c.loop-c.invariant.0, (cc (c.push_reserved.ensures.items, c.loop-c.invariant.1)), omega arith, omega arith)
+    let more = pushed_below g at c.args.notes.now in
+    (replaced_more f old at row best under is.0 c.loop-c.invariant.0, (cc (c.push.ensures, c.loop-c.invariant.1)), omega (arith, ap length c.push.ensures ∙ length-append c.loop-c.notes _))
 
 pub returns : goal.returns
-returns c =
+returns g c =
     let all : c.loop-c.c ≡ length c.args.broken.now = omega arith in
     record {
       row = rw all at (replaced_all _ _ c.loop-c.c c.loop-c.broken (omega arith) c.loop-c.invariant.0);
       notes = rw all at c.loop-c.invariant.1;
-      capacity = c.loop-c.invariant.3;
     }

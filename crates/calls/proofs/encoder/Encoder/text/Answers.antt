@@ -1,8 +1,13 @@
-use Rattle.calls.proofs.Texts.{adds_as, adds_then, text_bytes}
+use Rattle.std.proofs.Common.{arith}
+use Rattle.std.proofs.lemmas.Grind.{common_steps}
+use Rattle.calls.proofs.Texts.{text_bytes}
 use Rattle.calls.proofs.encoder.Encoder.text.Goals as goal
 
+pub returns-in_err-bytes : goal.returns-in_err-bytes
+returns-in_err-bytes c = rw (← text_bytes c.args.first.now c.args.second.now) (grind (arith, common_steps))
+
+pub returns-in_err-bytes-2 : goal.returns-in_err-bytes-2
+returns-in_err-bytes-2 c = rw (← text_bytes c.args.first.now c.args.second.now) (grind (arith, common_steps))
+
 pub returns : goal.returns
-returns c =
-    adds_as c.args.self.now c.bytes-3.new.self _ _ (text_bytes c.args.first.now c.args.second.now)
-    (adds_then c.args.self.now c.bytes.new.self c.bytes-3.new.self _ _ c.bytes.ensures
-    (adds_then c.bytes.new.self c.bytes-2.new.self c.bytes-3.new.self _ _ c.bytes-2.ensures c.bytes-3.ensures))
+returns c = rw (← text_bytes c.args.first.now c.args.second.now) (grind (arith, common_steps))

@@ -4,5 +4,5 @@ use Rattle.calls.proofs.reader.Reader.pop.Goals as goal
 
 pub returns : goal.returns
 returns c =
-    let len : length (vec_items c.args.self.now.stack) ≡ vec_len c.args.self.now.stack = search rules in
-    popped_last _ (vec_items c.pop.new.self) _ len c.pop.ensures.rest
+    let len : length (vec_items c.self.inside.stack) ≡ vec_len c.self.inside.stack = search rules in
+    rw (← c.self.view_is) (popped_last _ (vec_items c.pop.new.self) _ len c.pop.ensures.rest)

@@ -6,5 +6,6 @@ use Rattle.calls.proofs.reader.Reader.push.Goals as goal
 
 pub returns : goal.returns
 returns c =
-    ap (λ fs. goes fs a_value_or_close)
-    (sym (ap frames_of c.in_ok-push.ensures.items ∙ stacked_push (vec_items c.args.self.now.stack) _ []))
+    rw (← c.self.view_is)
+    (ap (λ fs. goes fs a_value_or_close)
+    (sym (ap frames_of c.in_ok-push.ensures.items ∙ stacked_push (vec_items c.self.inside.stack) _ [])))

@@ -1,4 +1,5 @@
-use Rattle.std.proofs.Common.{refl, arith}
+use Rattle.std.proofs.Common.{◌+◌, sym, refl, ap, ◌∙◌, arith}
+use Rattle.doc.specs.declared.node.Kind.TheVariants.{Nest}
 use Rattle.layout.proofs.Going.{within, first_within, second_after, second_quest, first_quest, nest_quest, room_to_save, group_quest, group_ready, nil_found, text_found, line_found, nest_found, cat_found, group_found}
 use Rattle.layout.proofs.search.Search.+search.Goals as goal
 
@@ -18,7 +19,7 @@ search-requires-in-Cat t c =
 
 pub search-requires-in-Nest : goal.search-requires-in-Nest
 search-requires-in-Nest t c =
-    (omega (arith, within _ _ _ _ c.requires, c.decreases), nest_quest _ _ _ _ c.requires _ c.in-Nest.is)
+    (omega (arith, within _ _ _ _ c.requires, c.decreases), nest_quest _ _ _ _ c.requires _ (c.in-Nest.is ∙ ap Nest (sym c.from-in-Nest.ensures)))
 
 pub save-requires : goal.save-requires
 save-requires t c = room_to_save _ _ _ _ c.requires
@@ -36,20 +37,20 @@ merge_saved-requires t c =
     record {
       kept = ready.kept;
       room = ready.room;
-      near = (omega (arith, ready.near, ready.short), omega (arith, ready.short));
+      near = (omega (arith, c.search-in-Group.new.self.near, ready.short), omega (arith, ready.short));
     }
 
 pub returns-in-Nil : goal.returns-in-Nil
-returns-in-Nil t c = nil_found _ _ _ _ _ c.in-Nil.is c.requires.near refl refl refl refl refl refl
+returns-in-Nil t c = nil_found _ _ _ _ _ c.in-Nil.is refl refl refl refl refl refl
 
 pub returns-in-Text : goal.returns-in-Text
-returns-in-Text t c = text_found _ _ _ _ _ _ _ c.in-Text.is c.requires.near refl refl refl refl refl refl
+returns-in-Text t c = text_found _ _ _ _ _ _ _ c.in-Text.is refl refl refl refl (ap (λ n. c.args.self.now.offset + n) c.from.ensures) (ap (λ n. c.args.self.now.flat + n) c.from-in-Text.ensures)
 
 pub returns-in-Cat : goal.returns-in-Cat
 returns-in-Cat t c = cat_found _ _ _ _ _ _ _ c.in-Cat.is refl c.search.ensures c.search-in-Cat.ensures
 
 pub returns-in-Nest : goal.returns-in-Nest
-returns-in-Nest t c = nest_found _ _ _ _ _ _ c.in-Nest.is c.search-in-Nest.ensures
+returns-in-Nest t c = nest_found _ _ _ _ _ _ (c.in-Nest.is ∙ ap Nest (sym c.from-in-Nest.ensures)) c.search-in-Nest.ensures
 
 pub returns-in-Line : goal.returns-in-Line
 returns-in-Line t c =
@@ -58,4 +59,4 @@ returns-in-Line t c =
 
 pub returns-in-Group : goal.returns-in-Group
 returns-in-Group t c =
-    group_found _ _ _ _ _ _ _ _ c.in-Group.is c.requires.near c.save.ensures c.search-in-Group.ensures refl c.merge_saved.ensures
+    group_found _ _ _ _ _ _ _ _ c.in-Group.is c.save.ensures c.search-in-Group.ensures refl c.merge_saved.ensures

@@ -1,4 +1,0 @@
-use Rattle.compare.proofs.plain.Setter.+part.Given as goal
-
-abbrev pub decreases-part : goal.decreases-part
-decreases-part l = l.left

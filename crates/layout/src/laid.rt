@@ -1,0 +1,12 @@
+// What is known of a layout that was written.
+ghost use Rattle.std.specs.Prelude.{◌≤◌};
+
+#[derive(Clone, Copy, Debug, PartialEq, Eq)]
+pub struct Laid {
+    // How many lines ended.
+    pub lines: usize,
+    // How many bytes the layout has.
+    pub length: usize,
+    ghost few: { lines ≤ 131072 },
+    ghost short: { length ≤ 131072 },
+}
