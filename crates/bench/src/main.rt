@@ -43,7 +43,7 @@ fn count(nodes: &mut Nodes, spelled: &[u8]) -> u64 {
         .map_or(0, |()| nodes.as_slice().len() as u64)
 }
 
-// A stage by its nanoseconds, and those of a node. Where nothing was measured, it prints the largest number, since what the program prints stays as it was.
+// A stage by its nanoseconds, and those of a node. For a stage that was never reached it prints the largest number, since what the program prints stays as it was.
 fn report(rt: &HostRuntime, name: &str, least: Option<Duration>, nodes: u64) -> anyhow::Result<()> {
     let nanos = least
         .and_then(|time| u64::try_from(time.as_nanos()).ok())
@@ -52,6 +52,19 @@ fn report(rt: &HostRuntime, name: &str, least: Option<Duration>, nodes: u64) -> 
     let whole = tenths / 10;
     let tenth = tenths % 10;
     println!(rt; "{name} {nanos} ns, {whole}.{tenth} a node")?;
+    Ok(())
+}
+
+// Each stage by its name in the program's output, which a stage does not print itself.
+fn report_all(rt: &HostRuntime, timer: &Timer<'_>, nodes: u64) -> anyhow::Result<()> {
+    let stages = [
+        ("reading", timer.reading),
+        ("searching", timer.searching),
+        ("writing", timer.writing),
+    ];
+    for (name, least) in stages {
+        report(rt, name, least, nodes)?;
+    }
     Ok(())
 }
 
@@ -77,15 +90,7 @@ fn run(rt: &HostRuntime, order: &Order) -> anyhow::Result<()> {
     let mut nodes = Nodes::new(heap)?;
     let nodes = count(&mut nodes, spelled.as_slice());
     println!(rt; "{nodes} nodes")?;
-    let stages = [
-        ("reading", timer.reading),
-        ("searching", timer.searching),
-        ("writing", timer.writing),
-    ];
-    for (name, least) in stages {
-        report(rt, name, least, nodes)?;
-    }
-    Ok(())
+    report_all(rt, &timer, nodes)
 }
 
 fn main(rt: HostRuntime) -> anyhow::Result<()> {

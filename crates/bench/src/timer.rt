@@ -3,23 +3,19 @@ use layout::watch::{Stage, Watch};
 use std::time::{Duration, Instant};
 
 #[derive(Drop)]
-pub struct Timer<'a> {
+pub(crate) struct Timer<'a> {
     rt: &'a HostRuntime,
     // When the stage began, where the clock tells.
     began: Option<Instant>,
-    pub reading: Option<Duration>,
-    pub searching: Option<Duration>,
-    pub writing: Option<Duration>,
-}
-
-// The lesser of the times that were taken.
-fn lesser(one: Option<Duration>, other: Option<Duration>) -> Option<Duration> {
-    one.into_iter().chain(other).min()
+    // Nothing for a stage that was never reached.
+    pub(crate) reading: Option<Duration>,
+    pub(crate) searching: Option<Duration>,
+    pub(crate) writing: Option<Duration>,
 }
 
 impl Timer<'_> {
     // Nothing measured yet.
-    pub fn new(rt: &HostRuntime) -> Timer<'_> {
+    pub(crate) fn new(rt: &HostRuntime) -> Timer<'_> {
         Timer {
             rt,
             began: None,
@@ -30,7 +26,7 @@ impl Timer<'_> {
     }
 
     // One more run begins.
-    pub fn begin(&mut self) {
+    pub(crate) fn begin(&mut self) {
         self.began = Instant::now(self.rt).ok();
     }
 }
@@ -38,14 +34,16 @@ impl Timer<'_> {
 impl Watch for Timer<'_> {
     fn ended(&mut self, stage: Stage) {
         let now = Instant::now(self.rt).ok();
+        // Where the clock tells nothing, no time is counted.
         let taken = now
             .zip(self.began)
-            .map(|(now, began)| now.duration_since(began));
-        match stage {
-            Stage::Reading => self.reading = lesser(self.reading, taken),
-            Stage::Searching => self.searching = lesser(self.searching, taken),
-            Stage::Writing => self.writing = lesser(self.writing, taken),
-        }
+            .map_or(Duration::ZERO, |(now, began)| now.duration_since(began));
+        let least = match stage {
+            Stage::Reading => &mut self.reading,
+            Stage::Searching => &mut self.searching,
+            Stage::Writing => &mut self.writing,
+        };
+        *least = Some(least.map_or(taken, |before| before.min(taken)));
         self.began = now;
     }
 }

@@ -10,11 +10,11 @@ use Rattle.calls.specs.Parsing.{opened_by}
 use Rattle.calls.specs.Tokens.{Token, word, mark, Placed, place}
 use Rattle.calls.specs.Emitting.{held, next_is, empty_list, mark_bytes, emit}
 use Rattle.calls.specs.Filling.{Adds}
-use Rattle.calls.specs.declared.encoder.TooLong.{TooLong}
+use Rattle.doc.specs.declared.reserved.Full.{Full}
 use Rattle.calls.specs.declared.rule.Rule.{Rule}
 
 -- the last part of a whole
-pub whole_adds : (a b c x whole : List ℕ) (r : Result ⊤ TooLong) → b ++ x ≡ a ++ whole → Adds b c x r → Adds a c whole r
+pub whole_adds : (a b c x whole : List ℕ) (r : Result ⊤ Full) → b ++ x ≡ a ++ whole → Adds b c x r → Adds a c whole r
 whole_adds a b c x whole (Ok u) e h = h ∙ e
 whole_adds a b c x whole (Err z) e h = subst (λ (bs : List ℕ). 65536 < length bs) e h
 

@@ -9,7 +9,7 @@ use crate::rule::{Rule, unambiguous};
 use layout::laid::Laid;
 use layout::refusal::Refusal;
 
-// The best layout of the document of the value that a source is, or what is wrong with it.
+// The best layout of the document of the value that a source is, or what is wrong with it. The width and the buffer are parameters as `lay_out` has them.
 pub fn set_call<'x>(
     room: &mut CallRoom,
     rules: &'x [Rule],
@@ -28,6 +28,7 @@ pub fn set_call<'x>(
         bytes: source,
     };
     room.reader.check(&source)?;
+    // No `?`: a `From<Full>` would say of every full row that it is no document.
     let Ok(()) = room.encoder.encode(&source) else {
         return Err(CallError::Refused(Refusal::NotDocument));
     };

@@ -5,10 +5,6 @@ use doc::nodes::MOST_BYTES;
 use doc::reserved::Reserved;
 use std::alloc::{AllocError, Global};
 
-// An encoding has more bytes than it may.
-#[derive(Clone, Copy, Debug, PartialEq, Eq)]
-pub(crate) struct TooLong;
-
 #[derive(Drop)]
 pub(crate) struct Encoder {
     pub(crate) out: Reserved<u8, MOST_BYTES>,

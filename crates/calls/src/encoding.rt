@@ -9,10 +9,10 @@ ghost use Rattle.calls.specs.Lexing.{tokens_left};
 ghost use Rattle.calls.specs.Emitting.{held, opening_bytes, closing_bytes, separating_bytes, next_is, empty_list, mark_bytes, emit};
 ghost use Rattle.calls.specs.Filling.{Adds};
 
-use crate::encoder::{Encoder, TooLong};
+use crate::encoder::Encoder;
 use crate::lexer::{Lexeme, Lexemes, Source, Token};
 use crate::rule::Rule;
-use doc::nodes::MOST_BYTES;
+use doc::reserved::Full;
 use doc::tag::Tag;
 
 // A text has at most so many bytes.
@@ -25,6 +25,7 @@ impl Lexemes<'_> {
         ensures left { tokens_left self.new ≡ drop (cond result 1 0) (tokens_left self.old) }
     {
         let mut ahead = *self;
+        // A pattern and no `==`, as the token's position does not count.
         let passed =
             matches!(ahead.next(), Some(Lexeme { token: Token::Mark(mark), .. }) if mark == close);
         if passed {
@@ -36,18 +37,14 @@ impl Lexemes<'_> {
 
 impl Encoder {
     // Bytes behind the others, if there is room for them.
-    fn bytes(&mut self, more: &[u8]) -> Result<(), TooLong>
+    fn bytes(&mut self, more: &[u8]) -> Result<(), Full>
         ensures { Adds self.old.out self.new.out more.now result }
     {
-        if more.len() > MOST_BYTES - self.out.len() {
-            return Err(TooLong);
-        }
-        self.out.extend_from_slice(more);
-        Ok(())
+        self.out.try_extend_from_slice(more)
     }
 
     // One text, given in two parts.
-    fn text(&mut self, first: &[u8], second: &[u8]) -> Result<(), TooLong>
+    fn text(&mut self, first: &[u8], second: &[u8]) -> Result<(), Full>
         requires { length first.now + length second.now ≤ 255 }
         ensures { Adds self.old.out self.new.out (encode (text (first.now ++ second.now))) result }
     {
@@ -58,7 +55,7 @@ impl Encoder {
     }
 
     // The end of a word, in one text or, where it is too long for one, in two.
-    fn word_end(&mut self, name: &[u8], tail: &[u8]) -> Result<(), TooLong>
+    fn word_end(&mut self, name: &[u8], tail: &[u8]) -> Result<(), Full>
         requires name { length name.now ≤ 255 }
         requires tail { length tail.now ≤ 2 }
         ensures { Adds self.old.out self.new.out (encode (word_doc (name.now ++ tail.now))) result }
@@ -73,7 +70,7 @@ impl Encoder {
     }
 
     // A word in texts of at most 255 bytes, each but the last behind a cat.
-    fn word(&mut self, name: &[u8], tail: &[u8]) -> Result<(), TooLong>
+    fn word(&mut self, name: &[u8], tail: &[u8]) -> Result<(), Full>
         requires { length tail.now ≤ 2 }
         ensures { Adds self.old.out self.new.out (encode (word_doc (name.now ++ tail.now))) result }
     {
@@ -89,7 +86,7 @@ impl Encoder {
     }
 
     // The word that waits, if there is one.
-    fn held(&mut self, waiting: &[u8]) -> Result<(), TooLong>
+    fn held(&mut self, waiting: &[u8]) -> Result<(), Full>
         ensures { Adds self.old.out self.new.out (held waiting.now) result }
     {
         if waiting.is_empty() {
@@ -98,8 +95,8 @@ impl Encoder {
         self.word(waiting, &[])
     }
 
-    // A bracket that opens a list, behind the word that waits; if it is empty, it is a word with its closing bracket.
-    fn opening(&mut self, waiting: &[u8], rule: Rule, empty: bool) -> Result<(), TooLong>
+    // A bracket that opens a list, behind the word that waits; if it is empty, it is a word with its closing bracket. Which of the two is a flag, as the definition of a mark's bytes takes it; likewise below.
+    fn opening(&mut self, waiting: &[u8], rule: Rule, empty: bool) -> Result<(), Full>
         ensures { Adds self.old.out self.new.out (cond empty (encode (word_doc (waiting.now ++ (rule.open ∷ rule.close ∷ [])))) (opening_bytes waiting.now rule)) result }
     {
         if empty {
@@ -118,12 +115,7 @@ impl Encoder {
     }
 
     // A closing bracket or a separator behind the word that waits.
-    fn closing_or_separator(
-        &mut self,
-        waiting: &[u8],
-        byte: u8,
-        closes: bool,
-    ) -> Result<(), TooLong>
+    fn closing_or_separator(&mut self, waiting: &[u8], byte: u8, closes: bool) -> Result<(), Full>
         ensures { Adds self.old.out self.new.out (held waiting.now ++ cond closes (closing_bytes byte) (separating_bytes byte)) result }
     {
         self.held(waiting)?;
@@ -148,14 +140,14 @@ impl Encoder {
         ])
     }
 
-    // A bracket or separator behind the word that waits, and the bracket behind it where that closes at once what it opens.
+    // A bracket or separator behind the word that waits, and the bracket behind it where that closes at once what it opens. The rules come from the source, since the field of the tokens is the lexer's own.
     fn mark(
         &mut self,
         source: &Source,
         lexemes: &mut Lexemes,
         waiting: &[u8],
         byte: u8,
-    ) -> Result<(), TooLong>
+    ) -> Result<(), Full>
         ensures adds { Adds self.old.out self.new.out (mark_bytes source.now.rules.now waiting.now byte (opened_by source.now.rules.now byte) (empty_list (opened_by source.now.rules.now byte) (bare (tokens_left lexemes.old)))) result }
         ensures left { tokens_left lexemes.new ≡ drop (cond (empty_list (opened_by source.now.rules.now byte) (bare (tokens_left lexemes.old))) 1 0) (tokens_left lexemes.old) }
     {
@@ -169,7 +161,7 @@ impl Encoder {
     }
 
     // Encodes a source's document, token by token.
-    pub(crate) fn encode(&mut self, source: &Source) -> Result<(), TooLong>
+    pub(crate) fn encode(&mut self, source: &Source) -> Result<(), Full>
         ensures { Adds [] self.new.out (emit source.now.rules.now [] false (bare (tokens source.now.rules.now 0 source.now.bytes.now))) result }
     {
         self.begin();

@@ -7,7 +7,7 @@ use std::alloc::AllocFailed;
 use std::error::Error;
 use std::fmt;
 
-// What is wrong with a source.
+// What is wrong with a source. The definitions have faults of their own, as what a source is must not name the code.
 #[derive(Clone, Copy, Debug, PartialEq, Eq)]
 pub enum FaultKind {
     ClosesNothing,

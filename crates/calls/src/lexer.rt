@@ -12,7 +12,7 @@ pub(crate) struct Source<'a> {
     pub(crate) bytes: &'a [u8],
 }
 
-// A word by its bytes, or a bracket or separator by its byte.
+// A word by its bytes, or a bracket or separator by its byte. The definitions have tokens of their own, as what a source is must not name the code.
 #[derive(Clone, Copy)]
 pub(crate) enum Token<'a> {
     Word(&'a [u8]),

@@ -59,7 +59,7 @@ impl Reader {
         self.stack.last().copied()
     }
 
-    // Whether a byte closes the innermost open bracket.
+    // Whether a byte closes the innermost open bracket. This and the next one are two definitions, of a field each: one function would take the field by a closure, and its clause would have to say what that computes.
     fn own_close(&self, byte: u8) -> bool
         ensures { result ≡ own_close self.now byte }
     {
@@ -91,7 +91,7 @@ impl Reader {
         Expects::BehindValue
     }
 
-    // A bracket or separator where a value should begin.
+    // A bracket or separator where a value should begin. Its byte and its position are two parameters here and below, as the definition of a step has them.
     fn mark_at_value(&mut self, source: &Source, byte: u8, at: usize) -> Result<Expects, CallError>
         ensures { StepSays (step_value source.now.rules.now self.old at (mark byte)) self.new result }
     {

@@ -61,7 +61,7 @@ impl Rule {
             && self.close != self.separator
     }
 
-    // Whether no bracket of one of two rules is a byte of the other, but that both may close alike.
+    // Whether no bracket of one of two rules is a byte of the other, but that both may close alike: field by field, as no derive says so.
     fn is_apart(&self, other: &Rule) -> bool
         ensures { result ≡ apart self.now other.now }
     {

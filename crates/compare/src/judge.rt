@@ -6,6 +6,7 @@ use layout::refusal::Refusal;
 use layout::workspace::Workspace;
 use std::alloc::{AllocError, Global};
 use std::cmp::Ordering;
+use std::fmt;
 
 // Every width up to 40, and some up to the largest.
 pub const WIDTHS: [u64; 47] = [
@@ -27,6 +28,28 @@ pub struct Tally {
     pub short: u64,
     pub passed: u64,
     pub failed: u64,
+}
+
+impl fmt::Display for Tally {
+    fn fmt<W: fmt::Write>(&self, f: &mut fmt::Formatter<W>) -> fmt::Result {
+        writeln!(
+            f,
+            "{} documents at {} widths, {} not documents, {} layouts",
+            self.documents,
+            WIDTHS.len(),
+            self.refused,
+            self.layouts
+        )?;
+        let compared = self.passed.saturating_add(self.failed);
+        writeln!(f, "{compared} comparisons, {} without room", self.short)?;
+        writeln!(
+            f,
+            "{} where a printer that looks at the group alone differs",
+            self.greedy
+        )?;
+        writeln!(f, "{} where several layouts are as good", self.ties)?;
+        writeln!(f, "{} passed, {} failed", self.passed, self.failed)
+    }
 }
 
 fn count(tally: &mut u64) {
@@ -85,17 +108,20 @@ fn is_filled(bytes: &[u8]) -> bool {
 #[derive(Drop)]
 pub struct Judge {
     heap: Global,
-    room: Workspace,
+    workspace: Workspace,
     out: Vec<u8>,
+    // How long the buffer is that may be too short for a layout, set where a document is begun.
+    short: usize,
     pub tally: Tally,
 }
 
 impl Judge {
-    pub fn new(heap: Global, room: Workspace) -> Judge {
+    pub fn new(heap: Global, workspace: Workspace) -> Judge {
         Judge {
             heap,
-            room,
+            workspace,
             out: Vec::new(heap),
+            short: 0,
             tally: Tally::default(),
         }
     }
@@ -109,6 +135,7 @@ impl Judge {
     }
 
     // What the printer answers, and writes to a filled buffer of so many bytes; the document and the width as `lay_out` takes them.
+    // The tests of `suite` have calls like this one and the next two, where a test has to fail; here what is wrong is counted.
     fn ask(
         &mut self,
         spelled: &[u8],
@@ -117,7 +144,8 @@ impl Judge {
     ) -> Result<Result<Laid, Refusal>, AllocError> {
         self.out.clear();
         self.out.resize(len, FILLED)?;
-        Ok(self.room.lay_out(spelled, width, self.out.as_mut_slice()))
+        let out = self.out.as_mut_slice();
+        Ok(self.workspace.lay_out(spelled, width, out))
     }
 
     // Whether the printer refuses so, and leaves the buffer as it was.
@@ -147,12 +175,7 @@ impl Judge {
     }
 
     // Compares the best layout at one width, with room for it and with less. Where none was found, that counts as failed.
-    fn compare(
-        &mut self,
-        document: &Document,
-        trial: Trial,
-        room: usize,
-    ) -> Result<(), AllocError> {
+    fn compare(&mut self, document: &Document, trial: Trial) -> Result<(), AllocError> {
         let Trial {
             width,
             best: Some(best),
@@ -175,40 +198,41 @@ impl Judge {
         }
         let right = self.gives(document.spelled, width, text, best.price.lines)?;
         self.note(right);
-        if room < text.len() {
+        if self.short < text.len() {
             count(&mut self.tally.short);
-            let right = self.refuses(document.spelled, width, room, Refusal::NoRoom)?;
+            let right = self.refuses(document.spelled, width, self.short, Refusal::NoRoom)?;
             self.note(right);
         }
         Ok(())
     }
 
-    // Compares one encoding at every width, and at one that cannot be.
+    // Compares one encoding at every width, and at one that cannot be, and in a buffer of so many bytes, where a layout has no room.
     pub fn document(
         &mut self,
         nodes: &mut Nodes,
         spelled: &[u8],
-        room: usize,
+        short: usize,
     ) -> Result<(), AllocError> {
+        self.short = short;
         let Ok(()) = nodes.read(spelled) else {
             count(&mut self.tally.refused);
-            let right = self.refuses(spelled, 256, room, Refusal::NotDocument)?;
+            let right = self.refuses(spelled, 256, short, Refusal::NotDocument)?;
             self.note(right);
             return Ok(());
         };
         count(&mut self.tally.documents);
-        let right = self.refuses(spelled, 256, room, Refusal::TooWide)?;
+        let right = self.refuses(spelled, 256, short, Refusal::TooWide)?;
         self.note(right);
         // too many layouts to go through count as failed, too
         let Some(document) = Document::new(nodes.as_slice(), spelled) else {
             self.note(false);
             return Ok(());
         };
-        self.search(&document, room)
+        self.search(&document)
     }
 
     // Goes through all layouts of a document, and compares the best one at every width.
-    fn search(&mut self, document: &Document, room: usize) -> Result<(), AllocError> {
+    fn search(&mut self, document: &Document) -> Result<(), AllocError> {
         let mut trials: Vec<Trial> = WIDTHS
             .iter()
             .map(|width| Trial {
@@ -222,17 +246,12 @@ impl Judge {
                 weigh(trials.as_mut_slice(), &layout, number);
             }
         }
-        self.compare_all(document, trials.as_slice(), room)
+        self.compare_all(document, trials.as_slice())
     }
 
-    fn compare_all(
-        &mut self,
-        document: &Document,
-        trials: &[Trial],
-        room: usize,
-    ) -> Result<(), AllocError> {
+    fn compare_all(&mut self, document: &Document, trials: &[Trial]) -> Result<(), AllocError> {
         for trial in trials {
-            self.compare(document, *trial, room)?;
+            self.compare(document, *trial)?;
         }
         Ok(())
     }

@@ -26,8 +26,8 @@ fn compare_all(heap: Global, judge: &mut Judge) -> Result<(), AllocError> {
         if n % 8 == 7 {
             maker.damage();
         }
-        let room = maker.random.below(400) as usize;
-        judge.document(&mut nodes, maker.spelled.as_slice(), room)?;
+        let short = maker.random.below(400) as usize;
+        judge.document(&mut nodes, maker.spelled.as_slice(), short)?;
     }
     Ok(())
 }
@@ -37,21 +37,7 @@ fn main(rt: HostRuntime) -> anyhow::Result<()> {
     let mut judge = Judge::new(heap, Workspace::new(heap)?);
     compare_all(heap, &mut judge)?;
     let tally = judge.tally;
-    println!(rt;
-        "{} documents at {} widths, {} not documents, {} layouts",
-        tally.documents,
-        judge::WIDTHS.len(),
-        tally.refused,
-        tally.layouts
-    )?;
-    let compared = tally.passed.saturating_add(tally.failed);
-    println!(rt; "{compared} comparisons, {} without room", tally.short)?;
-    println!(rt;
-        "{} where a printer that looks at the group alone differs",
-        tally.greedy
-    )?;
-    println!(rt; "{} where several layouts are as good", tally.ties)?;
-    println!(rt; "{} passed, {} failed", tally.passed, tally.failed)?;
+    print!(rt; "{tally}")?;
     if tally.failed > 0 {
         return Err(anyhow!("the printer and the search through all layouts differ"));
     }

@@ -7,20 +7,20 @@ const MOST_GROUPS: usize = 20;
 
 // What a layout costs at a width, the bytes beyond it first: the printer's cost once more, as nothing is shared with it.
 #[derive(Clone, Copy, PartialEq, Eq, PartialOrd, Ord)]
-pub struct Price {
-    pub beyond: u64,
-    pub lines: usize,
+pub(crate) struct Price {
+    pub(crate) beyond: u64,
+    pub(crate) lines: usize,
 }
 
 // Whether each group is broken, as they are gone through.
-pub trait Decider {
+pub(crate) trait Decider {
     // Whether the group is broken that begins at a column and has these nodes in it.
     fn breaks(&mut self, column: u64, inner: &[Node]) -> bool;
 }
 
 // A number's bits say which groups are broken, the first group's bit the highest.
 #[derive(Drop)]
-pub struct Numbered {
+pub(crate) struct Numbered {
     number: u64,
     // The bit of the group before, twice the next one's.
     bit: u64,
@@ -35,8 +35,8 @@ impl Decider for Numbered {
 
 // A printer that goes from the left and looks at the group alone: it is flat where it fits in so many columns.
 #[derive(Drop)]
-pub struct Greedy {
-    pub width: u64,
+pub(crate) struct Greedy {
+    pub(crate) width: u64,
 }
 
 impl Decider for Greedy {
@@ -74,6 +74,7 @@ impl From<AllocError> for Stop {
     }
 }
 
+// The library has two errors of want of memory.
 impl<T: Drop> From<AllocFailed<T>> for Stop {
     fn from(_: AllocFailed<T>) -> Stop {
         Stop::OutOfMemory
@@ -82,8 +83,8 @@ impl<T: Drop> From<AllocFailed<T>> for Stop {
 
 // A layout as it is made.
 #[derive(Drop)]
-pub struct Layout {
-    pub text: Vec<u8>,
+pub(crate) struct Layout {
+    pub(crate) text: Vec<u8>,
     // How long each line is that has ended.
     ended: Vec<u64>,
     // How long the last line is.
@@ -93,8 +94,20 @@ pub struct Layout {
 // What is around a part of a document.
 #[derive(Clone, Copy)]
 struct Around {
-    indent: u64,
+    indent: usize,
+    // The mode of what is around, flat or broken: a flag and not the printer's `Mode`, as nothing is shared with it.
     flat: bool,
+}
+
+impl Around {
+    // What is around the part of a group; no layout has a broken group in a flat one.
+    fn group(self, broken: bool) -> Result<Around, Stop> {
+        if broken && self.flat {
+            return Err(Stop::NotLayout);
+        }
+        let flat = !broken;
+        Ok(Around { flat, ..self })
+    }
 }
 
 impl Layout {
@@ -107,7 +120,7 @@ impl Layout {
     }
 
     // The bytes beyond a width, of all lines together, and how many lines ended.
-    pub fn price(&self, width: u64) -> Price {
+    pub(crate) fn price(&self, width: u64) -> Price {
         let last = self.column.saturating_sub(width);
         let beyond = self.ended.iter().fold(last, |sum, len| {
             sum.saturating_add(len.saturating_sub(width))
@@ -128,25 +141,24 @@ impl Layout {
         }
         self.ended.push(self.column)?;
         self.text.push(b'\n')?;
-        self.column = 0;
-        for _ in 0..around.indent {
-            self.put(b" ")?;
-        }
+        let len = self.text.len().saturating_add(around.indent);
+        self.text.resize(len, b' ')?;
+        self.column = around.indent as u64;
         Ok(())
     }
 }
 
 // A document's nodes and encoding, and how many numbers there are of its layouts.
 #[derive(Clone, Copy)]
-pub struct Document<'a> {
+pub(crate) struct Document<'a> {
     nodes: &'a [Node],
-    pub spelled: &'a [u8],
-    pub numbers: u64,
+    pub(crate) spelled: &'a [u8],
+    pub(crate) numbers: u64,
 }
 
 impl<'a> Document<'a> {
     // A document, or none where its layouts are too many.
-    pub fn new(nodes: &'a [Node], spelled: &'a [u8]) -> Option<Document<'a>> {
+    pub(crate) fn new(nodes: &'a [Node], spelled: &'a [u8]) -> Option<Document<'a>> {
         let groups = nodes.iter().filter(|node| node.kind == Kind::Group).count();
         if groups > MOST_GROUPS {
             return None;
@@ -159,13 +171,13 @@ impl<'a> Document<'a> {
     }
 
     // The layout of a number, or none where a group in a flat one would be broken.
-    pub fn numbered(&self, heap: Global, number: u64) -> Result<Option<Layout>, AllocError> {
+    pub(crate) fn numbered(&self, heap: Global, number: u64) -> Result<Option<Layout>, AllocError> {
         let bit = self.numbers;
         self.layout(heap, &mut Numbered { number, bit })
     }
 
     // The layout of some decisions, or none where a group in a flat one would be broken.
-    pub fn layout<D: Decider>(
+    pub(crate) fn layout<D: Decider>(
         &self,
         heap: Global,
         decider: &mut D,
@@ -203,17 +215,13 @@ impl<'a> Document<'a> {
             }
             Kind::Line => layout.line(around)?,
             Kind::Nest(k) => {
-                let indent = around.indent.saturating_add(u64::from(k));
+                let indent = around.indent.saturating_add(usize::from(k));
                 self.part(layout, decider, at + 1, Around { indent, ..around })?;
             }
             Kind::Group => {
                 let inner = self.nodes.get(at..end).unwrap_or_default();
                 let broken = decider.breaks(layout.column, inner);
-                if broken && around.flat {
-                    return Err(Stop::NotLayout);
-                }
-                let flat = !broken;
-                self.part(layout, decider, at + 1, Around { flat, ..around })?;
+                self.part(layout, decider, at + 1, around.group(broken)?)?;
             }
             Kind::Cat => {
                 let second = self

@@ -4,8 +4,8 @@ ghost use Rattle.std.specs.Prelude.{◌<◌, ◌≤◌};
 use doc::tag::Tag;
 use std::alloc::{AllocError, AllocFailed};
 
-// As many groups as a search through all layouts goes through in a short time.
-const MOST_GROUPS: u64 = 14;
+// A document is made of at most so many groups, as many as a search through all layouts goes through in a short time.
+const MOST_GROUPS_MADE: u64 = 14;
 
 // What texts are made of.
 const LETTERS: &[u8; 5] = b" bcda";
@@ -107,7 +107,7 @@ impl Maker {
                 self.spelled.push(k)?;
                 self.document(parts - 1)
             }
-            1..=3 if self.groups < MOST_GROUPS => {
+            1..=3 if self.groups < MOST_GROUPS_MADE => {
                 self.groups += 1;
                 self.tag(Tag::Group)?;
                 self.document(parts - 1)

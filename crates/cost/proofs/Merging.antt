@@ -1,6 +1,6 @@
 -- Two rows merged in place, column by column, with the notes that go with it. Assumes nothing.
-use Rattle.std.proofs.Common.{◌≡◌, ℕ, ◌+◌, ◌-◌, ◌<◌, ◌≤◌, Bool, cond, ◌≢◌, List, [], ◌∷◌, ◌++◌, length, get_or, set, replicate, sym, refl, ◌∙◌, add-one, arith, below_more}
-use Rattle.std.proofs.lemmas.List.{append_assoc, append-nil, get_or_default, get_or-replicate, get_or-set_same, get_or-set_other, length-replicate, same_lists}
+use Rattle.std.proofs.Common.{◌≡◌, ℕ, ◌+◌, ◌-◌, ◌<◌, ◌≤◌, Bool, cond, ◌≢◌, List, [], ◌∷◌, ◌++◌, length, get_or, set, sym, refl, ◌∙◌, add-one, arith, below_more}
+use Rattle.std.proofs.lemmas.List.{append_assoc, append-nil, get_or_default, get_or-set_same, get_or-set_other}
 use Rattle.cost.specs.Chosen.{below}
 use Rattle.cost.specs.Price.{beats, cheaper}
 use Rattle.cost.specs.Row.{along, no_cost}
@@ -55,9 +55,3 @@ module _ (f : ℕ → Cost) (old : List Cost) where
 
   pub replaced_all : (n : ℕ) (row : List Cost) → length row ≡ n → Replaced f old n row → row ≡ below f n
   replaced_all n row e r = only_below f n row e (λ c d h. get_or_default row c d no_cost (omega arith) ∙ r.done c h)
-
--- a row with one cost at every column
-pub all_alike : (row : List Cost) (x : Cost) (n : ℕ) → length row ≡ n → ((k : ℕ) → k < n → get_or row k no_cost ≡ x) → row ≡ replicate n x
-all_alike row x n e h =
-    same_lists row (replicate n x) (e ∙ sym (length-replicate n x))
-    (λ k d l. let under : k < n = omega arith in get_or_default row k d no_cost l ∙ (h k under ∙ sym (get_or-replicate n k x d under)))

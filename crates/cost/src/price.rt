@@ -2,7 +2,7 @@
 ghost use Rattle.std.specs.Prelude.{◌≡◌};
 ghost use Rattle.cost.specs.Price.{beats, capped, further, line_more};
 
-// More bytes beyond the width than the longest layout that is not refused has bytes.
+// More bytes beyond the width than the longest layout that is not refused has bytes: one more than the crate above this one says.
 pub const LIMIT: u32 = 131_073;
 
 // How a line is laid out: as a blank, or as the end of a line.

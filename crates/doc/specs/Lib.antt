@@ -5,4 +5,5 @@ pub mod Reading
 pub mod Standing
 pub mod Laws
 pub mod Lending
+pub mod Rows
 pub mod Tags

@@ -45,10 +45,7 @@ impl Source<'_> {
         let len = self.byte(at)?;
         let start = at + 1;
         let end = start + usize::from(len);
-        if self.bytes.len() < end {
-            return None;
-        }
-        if has_newline(&self.bytes[start..end]) {
+        if has_newline(self.bytes.get(start..end)?) {
             return None;
         }
         Some(len)
@@ -68,6 +65,16 @@ impl Nodes {
         place
     }
 
+    // Adds a node that has no parts, and answers where it ends, as an Option, which `document` answers.
+    fn leaf(&mut self, kind: Kind, end: usize) -> Option<usize>
+        requires { length self.old.row < 65536 }
+        ensures end { result ≡ Some end }
+        ensures items { self.new.row ≡ self.old.row ++ node kind (length self.old.row + 1) ∷ [] }
+    {
+        self.add(kind);
+        Some(end)
+    }
+
     // Ends a node behind all that was added after it.
     fn close(&mut self, place: usize)
         requires { place < length self.old.row }
@@ -83,14 +90,11 @@ impl Nodes {
         ensures { ReadsOn source.now.bytes.now at self.old.row self.new.row result }
     {
         match source.tag(at)? {
-            Tag::Nil => {
-                self.add(Kind::Nil);
-                Some(at + 1)
-            }
+            Tag::Nil => self.leaf(Kind::Nil, at + 1),
             Tag::Text => {
                 let len = source.text(at + 1)?;
-                self.add(Kind::Text((at + 2) as u32, len));
-                Some(at + 2 + usize::from(len))
+                let kind = Kind::Text((at + 2) as u32, len);
+                self.leaf(kind, at + 2 + usize::from(len))
             }
             Tag::Cat => {
                 let place = self.add(Kind::Cat);
@@ -106,10 +110,7 @@ impl Nodes {
                 self.close(place);
                 Some(end)
             }
-            Tag::Line => {
-                self.add(Kind::Line);
-                Some(at + 1)
-            }
+            Tag::Line => self.leaf(Kind::Line, at + 1),
             Tag::Group => {
                 let place = self.add(Kind::Group);
                 let end = self.document(source, at + 1)?;

@@ -1,9 +1,36 @@
 // Rows of items in memory that is taken once, for as many as there may ever be.
-ghost use Rattle.std.specs.Prelude.{◌≡◌, ◌+◌, ◌-◌, ◌<◌, ◌≤◌, List, [], ◌∷◌, ◌++◌, length, take, replicate, vec_len, vec_capacity, IfOk};
+ghost use Rattle.std.specs.Prelude.{◌≡◌, ◌+◌, ◌-◌, ◌<◌, ◌≤◌, ℕ, List, [], ◌∷◌, ◌++◌, length, take, replicate, vec_len, vec_capacity, IfOk};
 ghost use Rattle.std.specs.Borrow.{sem};
+ghost use Rattle.doc.specs.Rows.{TakesMore};
 
 use std::alloc::{AllocError, Global};
 use std::marker::Model;
+
+// There is no room for so many items. It has no words: who takes it says what is too long.
+#[derive(Clone, Copy, Debug, PartialEq, Eq)]
+pub struct Full;
+
+// A row to which items can be pushed as long as there is room.
+pub trait Pushed<T> {
+    ghost items: { Self → List T };
+
+    ghost room: { Self → ℕ };
+
+    fn push(&mut self, item: T)
+        requires { length (items self.old) < room self.old }
+        ensures items { items self.new ≡ items self.old ++ item ∷ [] }
+        ensures room { room self.new ≡ room self.old };
+}
+
+impl<T> Pushed<T> for Vec<T> {
+    ghost items = { λ v. v.items };
+
+    ghost room = { λ v. vec_capacity v };
+
+    fn push(&mut self, item: T) {
+        self.push_reserved(item);
+    }
+}
 
 // At most `MOST` items. A clause sees the list of them.
 #[derive(Drop)]
@@ -72,12 +99,24 @@ impl<T: Copy, const MOST: usize> Reserved<T, MOST> {
         let _ = self.items.extend_from_slice(more);
     }
 
+    // More items, or none of them where there is no room for all.
+    pub fn try_extend_from_slice(&mut self, more: &[T]) -> Result<(), Full>
+        ensures takes { TakesMore MOST self.old more.now self.new result }
+        ensures within { length self.new ≤ MOST }
+    {
+        if more.len() > MOST - self.len() {
+            return Err(Full);
+        }
+        self.extend_from_slice(more);
+        Ok(())
+    }
+
     // As many items: those at the end go, or others come there.
     pub fn resize(&mut self, len: usize, item: T)
         requires { len ≤ MOST }
         ensures { self.new ≡ take len self.old ++ replicate (len - length self.old) item }
     {
-        // As above.
+        // It cannot fail, as above.
         let _ = self.items.resize(len, item);
     }
 
@@ -85,5 +124,15 @@ impl<T: Copy, const MOST: usize> Reserved<T, MOST> {
         ensures { self.new ≡ take len self.old }
     {
         self.items.truncate(len);
+    }
+}
+
+impl<T: Copy, const MOST: usize> Pushed<T> for Reserved<T, MOST> {
+    ghost items = { λ r. r };
+
+    ghost room = { λ _. MOST };
+
+    fn push(&mut self, item: T) {
+        self.push(item);
     }
 }

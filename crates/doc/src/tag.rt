@@ -1,8 +1,5 @@
-// The byte that an encoded document begins with.
+// The byte that an encoded document begins with: of each kind of node one, whose kind carries what was read besides.
 ghost use Rattle.doc.specs.Tags.{Tells};
-
-use std::error::Error;
-use std::fmt;
 
 #[derive(Clone, Copy, Debug, PartialEq, Eq)]
 pub enum Tag {
@@ -14,7 +11,7 @@ pub enum Tag {
     Group = 5,
 }
 
-// A byte that no document begins with.
+// A byte that no document begins with. It has no words: the reader says that there is no document.
 #[derive(Clone, Copy, Debug, PartialEq, Eq)]
 pub struct NoTag(pub u8);
 
@@ -35,11 +32,3 @@ impl TryFrom<u8> for Tag {
         }
     }
 }
-
-impl fmt::Display for NoTag {
-    fn fmt<W: fmt::Write>(&self, f: &mut fmt::Formatter<W>) -> fmt::Result {
-        write!(f, "no document begins with byte {}", self.0)
-    }
-}
-
-impl Error for NoTag {}

@@ -4,7 +4,7 @@
 use layout::workspace::Workspace;
 use std::io::Write;
 
-// "aaaa", a group of a line and "b", and "cccc", as docs/format.md encodes it.
+// "aaaa", a group of a line and "b", and "cccc", as docs/format.md encodes it. The bytes are its own, as a program of another repository would have them.
 const DOCUMENT: &[u8; 20] = b"\x02\x01\x04aaaa\x02\x05\x02\x04\x01\x01b\x01\x04cccc";
 
 fn print(rt: &HostRuntime, room: &mut Workspace, width: u64) -> anyhow::Result<()> {

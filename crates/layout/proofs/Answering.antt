@@ -1,5 +1,5 @@
 -- Which refusal applies, and that what was written is the best layout. Assumes nothing.
-use Rattle.std.proofs.Common.{◌≡◌, ℕ, zero, suc, ◌<◌, ◌≤◌, List, [], ◌++◌, length, drop, replicate, Some, None, Ok, Err, Result, MatchResult, unwrap_or, sym, refl, ap, ◌∙◌, subst, ⊎_elim, append-nil, arith}
+use Rattle.std.proofs.Common.{◌≡◌, ℕ, suc, ◌<◌, ◌≤◌, List, [], ◌++◌, length, drop, replicate, Some, None, Ok, Err, Result, MatchResult, unwrap_or, sym, refl, ap, ◌∙◌, subst, ⊎_elim, append-nil, arith}
 use Rattle.std.proofs.lemmas.List.{take_all}
 use Rattle.std.proofs.lemmas.Bool.{cond-true, cond-false, le-leb, lt-leb, cases_lt}
 use Rattle.doc.specs.Doc.{Doc, nil}
@@ -20,16 +20,15 @@ use Rattle.cost.proofs.Tells.{tells_stop}
 use Rattle.cost.proofs.Level.{level_stop}
 use Rattle.cost.proofs.Chosen.{chosen_best}
 use Rattle.cost.proofs.Counted.{best_counted}
-use Rattle.layout.specs.Entry.{refusal, refusal_of, the_best, length_refusal, refusal_number, LaysOut, SetSays, reply_of}
+use Rattle.layout.specs.Entry.{refusal, refusal_of, the_best, length_refusal, refusal_number, LaysOut}
 use Rattle.layout.specs.Searching.{Begun, Quest, Found}
 use Rattle.layout.specs.Writing.{Holds, Task, Wrote, Writes}
 use Rattle.layout.specs.declared.search.Search.{Search}
 use Rattle.layout.specs.declared.laid.Laid.{Laid}
 use Rattle.layout.specs.declared.refusal.Refusal.{Refusal}
 use Rattle.layout.specs.declared.refusal.Refusal.TheVariants.{NotDocument, TooWide, TooLong, NoRoom}
-use Rattle.layout.specs.declared.reply.Reply.TheVariants.{Lines, Refused}
 use Rattle.layout.specs.declared.plan.Plan.{Plan}
-use Rattle.layout.specs.declared.writer.Overlong.{Overlong}
+use Rattle.doc.specs.declared.reserved.Full.{Full}
 use Rattle.layout.specs.declared.writer.Writer.{Writer}
 use Rattle.layout.proofs.Tasks.{left_as}
 
@@ -70,15 +69,8 @@ says_refused spelled w out exit refused NoRoom e x = subst (λ n. LaysOut spelle
 pub says_laid : (spelled : List ℕ) (w : ℕ) (out exit : List ℕ) (refused : ℕ) (laid : Laid) → refused ≡ 0 → laid.lines ≡ (the_best spelled w).lines → laid.length ≡ length (the_best spelled w).out → exit ≡ (the_best spelled w).out ++ drop (length (the_best spelled w).out) out → LaysOut spelled w out refused (Ok laid) exit
 says_laid spelled w out exit refused laid e f g h = subst (λ n. LaysOut spelled w out n (Ok laid) exit) (sym e) (f, g, h)
 
--- what is answered says the same when it is packed in a number
-pub says_packed : (spelled : List ℕ) (w : ℕ) (out exit : List ℕ) (refused : ℕ) (r : Result Laid Refusal) → LaysOut spelled w out refused r exit → SetSays spelled w out refused (reply_of r) exit
-says_packed spelled w out exit zero (Ok laid) h = (ap Lines (omega (arith, h.0, h.1)), h.2)
-says_packed spelled w out exit (suc k) (Err e) h = (ap Refused h.0, h.1)
-says_packed spelled w out exit zero (Err e) h = absurd h
-says_packed spelled w out exit (suc k) (Ok laid) h = absurd h
-
 -- what was written in the end: the best layout, or that is too long
-pub wrote_best : (w : ℕ) (d : Doc) (v : Writer) (n : ℕ) (r : Result (Unit {0}) Overlong) → size d ≤ 65536 → Wrote v (chosen w d 0 Broken stop empty) n r → MatchResult r (λ _. (v.out ≡ (best w d).out) × (v.lines ≡ (best w d).lines)) (λ _. 131072 < length (best w d).out)
+pub wrote_best : (w : ℕ) (d : Doc) (v : Writer) (n : ℕ) (r : Result (Unit {0}) Full) → size d ≤ 65536 → Wrote v (chosen w d 0 Broken stop empty) n r → MatchResult r (λ _. (v.out ≡ (best w d).out) × (v.lines ≡ (best w d).lines)) (λ _. 131072 < length (best w d).out)
 wrote_best w d v n (Ok t) few h =
     let known = chosen_best w d few in
     ⊎_elim
@@ -141,7 +133,7 @@ module _ (plan : Plan) (r : RowOf plan.source.now plan.nodes.now) where
     few = omega (arith, whole_long _ _ r, r.few);
   }
 
-  pub whole_written : (v u : Writer) (a : Result (Unit {0}) Overlong) → plan.notes.now ≡ notes plan.width r.what 0 stop → Holds v empty (length plan.notes.now) → Writes plan 0 0 Broken v u a → MatchResult a (λ _. (u.out ≡ (the_best plan.source.now plan.width).out) × (u.lines ≡ (the_best plan.source.now plan.width).lines)) (λ _. 131072 < length (the_best plan.source.now plan.width).out)
+  pub whole_written : (v u : Writer) (a : Result (Unit {0}) Full) → plan.notes.now ≡ notes plan.width r.what 0 stop → Holds v empty (length plan.notes.now) → Writes plan 0 0 Broken v u a → MatchResult a (λ _. (u.out ≡ (the_best plan.source.now plan.width).out) × (u.lines ≡ (the_best plan.source.now plan.width).lines)) (λ _. 131072 < length (the_best plan.source.now plan.width).out)
   unfolding whole_task
   whole_written v u a e held writes =
       subst (λ l. MatchResult a (λ _. (u.out ≡ l.out) × (u.lines ≡ l.lines)) (λ _. 131072 < length l.out)) (sym (best_is plan.source.now plan.width 0 r.what r.decoded))

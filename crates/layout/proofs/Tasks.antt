@@ -18,7 +18,7 @@ use Rattle.cost.specs.declared.price.Mode.TheVariants.{Flat, Broken}
 use Rattle.cost.proofs.Notes.{length_below, get_or_below}
 use Rattle.layout.specs.Writing.{Holds, SameButLeft, Task, Wrote, Writes}
 use Rattle.layout.specs.declared.plan.Plan.{Plan}
-use Rattle.layout.specs.declared.writer.Overlong.{Overlong}
+use Rattle.doc.specs.declared.reserved.Full.{Full}
 use Rattle.layout.specs.declared.writer.Writer.{Writer}
 
 line_grows : (w i : ℕ) (m : Mode) (l : Layout) → length l.out ≤ length (line_chosen w i m l).out
@@ -54,7 +54,7 @@ chosen_cat w a b i Flat k l = ap (chosen w b i Flat k) (flat_alike w a i _ _ l)
 chosen_cat w a b i Broken k l = refl
 
 -- what is written is this layout, under another name
-pub wrote_as : (u : Writer) (l k : Layout) (n m : ℕ) (r : Result (Unit {0}) Overlong) → l ≡ k → n ≡ m → Wrote u l n r → Wrote u k m r
+pub wrote_as : (u : Writer) (l k : Layout) (n m : ℕ) (r : Result (Unit {0}) Full) → l ≡ k → n ≡ m → Wrote u l n r → Wrote u k m r
 wrote_as u l k n m r e f h = subst (λ x. Wrote u x m r) e (subst (λ x. Wrote u l x r) f h)
 
 -- a fact of every error holds of a result that is one
@@ -194,7 +194,7 @@ unfolding so_far
 holds_so_far v = record { out_is = refl; column_is = refl; lines_are = refl; left_are = refl }
 
 -- a line by its mode
-module _ (w i : ℕ) (m : Mode) (v u : Writer) (r : Result (Unit {0}) Overlong) where
+module _ (w i : ℕ) (m : Mode) (v u : Writer) (r : Result (Unit {0}) Full) where
   pub flat_line : m ≡ Flat → ((l : Layout) (left : ℕ) → Holds v l left → Wrote u (with_text (32 ∷ []) l) left r) → (l : Layout) (left : ℕ) → Holds v l left → Wrote u (line_chosen w i m l) left r
   flat_line e f l left h = subst (λ x. Wrote u (line_chosen w i x l) left r) (sym e) (f l left h)
 
@@ -215,7 +215,7 @@ module _ (plan : Plan) (at i : ℕ) (m : Mode) (v : Writer) where
       let e = node_shape t Nil is in
       wrote_as v _ _ _ _ (Ok tt) (ap (λ d. chosen plan.width d i m t.rest l) (sym e)) (none_used t nil e refl) h
 
-  pub text_writes : (start len : ℕ) (u : Writer) (r : Result (Unit {0}) Overlong) (part : List ℕ) → (get_or plan.nodes.now at no_node).kind ≡ Text start len → part ≡ take len (drop start plan.source.now) → ((l : Layout) (left : ℕ) → Holds v l left → Wrote u (with_text part l) left r) → Writes plan at i m v u r
+  pub text_writes : (start len : ℕ) (u : Writer) (r : Result (Unit {0}) Full) (part : List ℕ) → (get_or plan.nodes.now at no_node).kind ≡ Text start len → part ≡ take len (drop start plan.source.now) → ((l : Layout) (left : ℕ) → Holds v l left → Wrote u (with_text part l) left r) → Writes plan at i m v u r
   unfolding chosen notes Spelled
   text_writes start len u r part is cut f t l h =
       let p = node_shape t (Text start len) is in
@@ -224,7 +224,7 @@ module _ (plan : Plan) (at i : ℕ) (m : Mode) (v : Writer) where
       let same : part ≡ p.0 = cut ∙ (λ x. take (p.3 x) (drop (p.2 x) plan.source.now)) ∙ q.0 in
       wrote_as u _ _ _ _ r (ap (λ x. with_text x l) same ∙ ap (λ d. chosen plan.width d i m t.rest l) (sym e)) (none_used t (text p.0) e refl) (f l v.left h)
 
-  pub line_writes : (u : Writer) (r : Result (Unit {0}) Overlong) → (get_or plan.nodes.now at no_node).kind ≡ Line → ((l : Layout) (left : ℕ) → Holds v l left → Wrote u (line_chosen plan.width i m l) left r) → Writes plan at i m v u r
+  pub line_writes : (u : Writer) (r : Result (Unit {0}) Full) → (get_or plan.nodes.now at no_node).kind ≡ Line → ((l : Layout) (left : ℕ) → Holds v l left → Wrote u (line_chosen plan.width i m l) left r) → Writes plan at i m v u r
   unfolding chosen notes
   line_writes u r is f t l h =
       let e = node_shape t Line is in
@@ -233,7 +233,7 @@ module _ (plan : Plan) (at i : ℕ) (m : Mode) (v : Writer) where
   pub nest_ready : (j : ℕ) → (get_or plan.nodes.now at no_node).kind ≡ Nest j → Task plan at i v.left → Task plan (at + 1) (i + j) v.left
   nest_ready j is t = let p = node_shape t (Nest j) is in nest_task t j p.0 p.1
 
-  pub nest_writes : (j : ℕ) (u : Writer) (r : Result (Unit {0}) Overlong) → (get_or plan.nodes.now at no_node).kind ≡ Nest j → Writes plan (at + 1) (i + j) m v u r → Writes plan at i m v u r
+  pub nest_writes : (j : ℕ) (u : Writer) (r : Result (Unit {0}) Full) → (get_or plan.nodes.now at no_node).kind ≡ Nest j → Writes plan (at + 1) (i + j) m v u r → Writes plan at i m v u r
   unfolding chosen nest_task
   nest_writes j u r is f t l h =
       let p = node_shape t (Nest j) is in
@@ -256,7 +256,7 @@ module _ (plan : Plan) (at i : ℕ) (m : Mode) (v : Writer) where
     pub first_ready : Task plan at i v.left → Task plan (at + 1) i v.left
     first_ready t = let p = node_shape t Cat is in first_task t p.0 p.1 p.2
 
-    module _ (u : Writer) (r : Result (Unit {0}) Overlong) (f : Writes plan (at + 1) i m v u r) where
+    module _ (u : Writer) (r : Result (Unit {0}) Full) (f : Writes plan (at + 1) i m v u r) where
       -- the layout up to the second part, and the notes that are left
       halfway : (t : Task plan at i v.left) (a b : Doc) → t.what ≡ cat a b → (l : Layout) → Holds v l v.left → Wrote u (chosen plan.width a i m (to_go plan.width b i Broken t.rest) l) (length (t.before ++ notes plan.width b i t.rest)) r
       unfolding first_task
@@ -267,7 +267,7 @@ module _ (plan : Plan) (at i : ℕ) (m : Mode) (v : Writer) where
     cat_name t a b e l = sym (chosen_cat plan.width a b i m t.rest l) ∙ ap (λ d. chosen plan.width d i m t.rest l) (sym e)
 
     -- where the first part makes the layout too long, both do
-    pub cat_stops : (u : Writer) (x : Overlong) → Writes plan (at + 1) i m v u (Err x) → (r : Result (Unit {0}) Overlong) → IsErr r → Writes plan at i m v u r
+    pub cat_stops : (u : Writer) (x : Full) → Writes plan (at + 1) i m v u (Err x) → (r : Result (Unit {0}) Full) → IsErr r → Writes plan at i m v u r
     cat_stops u x f r stops t l h =
         let p = node_shape t Cat is in
         let k = t.rest in
@@ -283,7 +283,7 @@ module _ (plan : Plan) (at i : ℕ) (m : Mode) (v : Writer) where
           let half : Holds u _ _ = halfway u (Ok tt) f t p.0 p.1 e (so_far v) (holds_so_far v) in
           subst (λ x. Task plan x i u.left) (sym (second_at t p.0 p.1 e)) (second_task t p.0 p.1 e u.left half.left_are)
 
-      pub cat_writes : (x : Writer) (r : Result (Unit {0}) Overlong) → Writes plan (get_or plan.nodes.now (at + 1) no_node).end i m u x r → Writes plan at i m v x r
+      pub cat_writes : (x : Writer) (r : Result (Unit {0}) Full) → Writes plan (get_or plan.nodes.now (at + 1) no_node).end i m u x r → Writes plan at i m v x r
       unfolding second_task
       cat_writes x r g t l h =
           let p = node_shape t Cat is in
@@ -303,7 +303,7 @@ module _ (plan : Plan) (at i : ℕ) (m : Mode) (v : Writer) where
       pub group_ready : Task plan at i v.left → Task plan (at + 1) i u.left
       group_ready t = let p = node_shape t Group is in group_task t p.0 p.1 u.left same.left_is
 
-      pub group_writes : (x : Writer) (inner : Mode) (r : Result (Unit {0}) Overlong) → inner ≡ decided m (get_or plan.notes.now (v.left - (plan.width + 1) + min v.column plan.width) false) → Writes plan (at + 1) i inner u x r → Writes plan at i m v x r
+      pub group_writes : (x : Writer) (inner : Mode) (r : Result (Unit {0}) Full) → inner ≡ decided m (get_or plan.notes.now (v.left - (plan.width + 1) + min v.column plan.width) false) → Writes plan (at + 1) i inner u x r → Writes plan at i m v x r
       unfolding chosen group_task
       group_writes x inner r mode g t l h =
           let p = node_shape t Group is in

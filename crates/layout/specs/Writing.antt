@@ -7,7 +7,7 @@ use Rattle.cost.specs.Layout.{Layout}
 use Rattle.cost.specs.Chosen.{chosen, notes}
 use Rattle.cost.specs.declared.price.Mode.{Mode}
 use Rattle.layout.specs.declared.plan.Plan.{Plan}
-use Rattle.layout.specs.declared.writer.Overlong.{Overlong}
+use Rattle.doc.specs.declared.reserved.Full.{Full}
 use Rattle.layout.specs.declared.writer.Writer.{Writer}
 
 -- what a writer holds: a layout's bytes, column and lines, with so many notes left
@@ -18,7 +18,7 @@ pub record Holds (v : Writer) (l : Layout) (n : ℕ) : Type 0 where
   pub left_are : v.left ≡ n
 
 -- what writing answers: the writer holds this layout, or it is too long
-abbrev pub Wrote : Writer → Layout → ℕ → Result (Unit {0}) Overlong → Type 0
+abbrev pub Wrote : Writer → Layout → ℕ → Result (Unit {0}) Full → Type 0
 Wrote u l n r = MatchResult r (λ _. Holds u l n) (λ _. 131072 < length l.out)
 
 -- a note was used, and nothing else has changed
@@ -42,7 +42,7 @@ pub record Task (plan : Plan) (at indent left : ℕ) : Type 0 where
   pub few : length plan.nodes.now ≤ 65536
 
 -- what is written of the document at a node is what its decisions choose, behind any layout that the writer held
-abbrev pub Writes : Plan → (at indent : ℕ) → Mode → (v u : Writer) → Result (Unit {0}) Overlong → Type 0
+abbrev pub Writes : Plan → (at indent : ℕ) → Mode → (v u : Writer) → Result (Unit {0}) Full → Type 0
 Writes plan at indent m v u r =
     (t : Task plan at indent v.left) (l : Layout) → Holds v l v.left →
     Wrote u (chosen plan.width t.what indent m t.rest l) (length t.before) r

@@ -10,8 +10,8 @@ use crate::reply::Reply;
 use crate::tree::Tree;
 use crate::watch::{Stage, Unwatched, Watch};
 use crate::workspace::Workspace;
-use crate::writer::Overlong;
 use cost::price::Mode;
+use doc::reserved::Full;
 
 // A layout has at most so many bytes.
 pub use crate::writer::MOST_LAYOUT;
@@ -19,7 +19,7 @@ pub use crate::writer::MOST_LAYOUT;
 // The widest that a layout may be; by `as`, since a constant takes no `from`.
 pub const MOST_WIDTH: u64 = u8::MAX as u64;
 
-// A width that can be.
+// A width that can be. Only here is the widest a bound in a clause; behind it the type says it.
 fn narrow(width: u64) -> Option<u8>
     ensures { MatchOption result (255 < width) (λ w. (w ≡ width) × (width ≤ 255)) }
 {
@@ -42,12 +42,7 @@ fn copied(layout: &[u8], out: &mut [u8]) -> Option<usize>
 
 impl Workspace {
     // Writes the best layout of the document that was read, and answers how many lines ended, where it is not too long.
-    fn compose<W: Watch>(
-        &mut self,
-        spelled: &[u8],
-        width: u8,
-        watch: &mut W,
-    ) -> Result<usize, Overlong>
+    fn compose<W: Watch>(&mut self, spelled: &[u8], width: u8, watch: &mut W) -> Result<usize, Full>
         requires { RowOf spelled.now self.old.nodes.row }
         ensures { LaidOut spelled.now width self.new.writer.out result }
     {
@@ -76,6 +71,7 @@ impl Workspace {
         watch: &mut W,
     ) -> Result<Laid, Refusal>
         ensures laid { LaysOut spelled.now width out.old (refusal spelled.now width (length out.old)) result out.new }
+        // Said here and wherever a layout is handed on, as callers cut the buffer by it: to find it in what was laid out they would go through the refusals.
         ensures within { IfOk result (λ laid. laid.length ≤ length out.old) }
     {
         // Each check hands its value on or leaves by `let .. else`: the project asks for this form, in the place of `?`.

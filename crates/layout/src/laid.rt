@@ -5,7 +5,7 @@ ghost use Rattle.std.specs.Prelude.{◌≤◌};
 pub struct Laid {
     // How many lines ended.
     pub lines: usize,
-    // How many bytes the layout has.
+    // How many bytes the layout has: no slice of the buffer, which would stay lent as long as the answer is kept.
     pub length: usize,
     ghost few: { lines ≤ 131072 },
     ghost short: { length ≤ 131072 },

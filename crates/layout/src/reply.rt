@@ -17,7 +17,7 @@ pub enum Reply {
 }
 
 impl Reply {
-    // How long the layout is, or 0 where there is none.
+    // How long the layout is, or 0 where there is none, as this format has it.
     pub fn length(self) -> usize
         ensures { result ≡ reply_length self }
     {
@@ -27,7 +27,7 @@ impl Reply {
         }
     }
 
-    // How many lines ended, or 0 where there is no layout.
+    // How many lines ended, or 0 where there is no layout, as this format has it.
     pub fn lines(self) -> u64
         ensures { result ≡ reply_lines self }
     {

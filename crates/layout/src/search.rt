@@ -21,7 +21,7 @@ pub(crate) struct Search {
     pub(crate) flat: usize,
     // The rows behind the groups that are being gone through, one behind the other, since memory is taken once.
     pub(crate) saved: Reserved<Cost, MOST_KEPT>,
-    // For each group that was gone through, whether it is broken at each column.
+    // For each group that was gone through, whether it is broken at each column, one row behind the other, too.
     pub(crate) notes: Reserved<bool, MOST_KEPT>,
     ghost near: { offset ≤ flat },
     ghost long: { length row ≡ width + 1 },

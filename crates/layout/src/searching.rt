@@ -26,7 +26,7 @@ impl Search {
         self.flat = 0;
     }
 
-    // Ends a line before the rest, at an indentation: every column then costs the same.
+    // Ends a line before the rest, at an indentation: every column then costs the same. That numbers are at most 2^32, here, below and in `merge`, is asked for sums alone, and known of what is gone through.
     fn line(&mut self, indent: usize)
         requires { (indent ≤ 2 ^ 32) × ((self.old.offset ≤ 2 ^ 32) × (self.old.flat ≤ 2 ^ 32)) }
         ensures width { self.new.width ≡ self.old.width }

@@ -7,16 +7,12 @@ use std::alloc::{AllocError, Global};
 // A layout has at most so many bytes.
 pub const MOST_LAYOUT: usize = 131_072;
 
-// A layout is longer than that.
-#[derive(Clone, Copy, Debug)]
-pub(crate) struct Overlong;
-
 #[derive(Drop)]
 pub(crate) struct Writer {
     pub(crate) out: Reserved<u8, MOST_LAYOUT>,
     pub(crate) column: usize,
     pub(crate) lines: usize,
-    // How many of the notes have not been used yet, from their beginning.
+    // How many of the notes have not been used yet, from their beginning; a number and no slice of them, which stand in the plan.
     pub(crate) left: usize,
     // As the type of the bytes says, for the lemmas that take a writer.
     ghost short: { length out ≤ 131072 },

@@ -5,35 +5,33 @@ ghost use Rattle.cost.specs.Chosen.{decided};
 ghost use Rattle.layout.specs.Writing.{Holds, SameButLeft, Task, Wrote, Writes};
 
 use crate::plan::Plan;
-use crate::writer::{MOST_LAYOUT, Overlong, Writer};
+use crate::writer::{MOST_LAYOUT, Writer};
 use cost::price::Mode;
 use doc::node::Kind;
 use doc::reader::NEWLINE;
+use doc::reserved::Full;
 
 const BLANK: u8 = b' ';
 
 impl Writer {
     // Text at the column.
-    fn text(&mut self, text: &[u8]) -> Result<(), Overlong>
+    fn text(&mut self, text: &[u8]) -> Result<(), Full>
         requires { length text.now ≤ 255 }
         ensures { (l : Layout) (left : ℕ) → Holds self.old l left → Wrote self.new (with_text text.now l) left result }
     {
-        if self.out.len() + text.len() > MOST_LAYOUT {
-            return Err(Overlong);
-        }
-        self.out.extend_from_slice(text);
+        self.out.try_extend_from_slice(text)?;
         self.column += text.len();
         Ok(())
     }
 
-    // The end of a line, and the blanks that the next one begins with.
-    fn newline(&mut self, indent: usize) -> Result<(), Overlong>
+    // The end of a line, and the blanks that the next one begins with: one test of the room for both, so it is this one's own.
+    fn newline(&mut self, indent: usize) -> Result<(), Full>
         requires { indent ≤ 16777216 }
         ensures { (w : ℕ) (l : Layout) (left : ℕ) → Holds self.old l left → Wrote self.new (with_line w indent l) left result }
     {
         let end = self.out.len() + 1 + indent;
         if end > MOST_LAYOUT {
-            return Err(Overlong);
+            return Err(Full);
         }
         self.out.push(NEWLINE);
         self.out.resize(end, BLANK);
@@ -65,7 +63,7 @@ impl Writer {
         at: usize,
         indent: usize,
         mode: Mode,
-    ) -> Result<(), Overlong>
+    ) -> Result<(), Full>
         requires { Task plan.now at indent self.old.left }
         ensures { Writes plan.now at indent mode self.old self.new result }
     {
@@ -76,6 +74,7 @@ impl Writer {
                 // By `as`, since `usize` has no `From<u32>`.
                 let start = start as usize;
                 let end = start + usize::from(len);
+                // No `get`: that the text is there is known of the task.
                 self.text(&plan.source[start..end])
             }
             Kind::Cat => {

@@ -3,14 +3,14 @@ use std::fmt;
 
 // Where a byte stands in a source. Lines and columns are counted from 1.
 #[derive(Clone, Copy)]
-pub struct Place {
+pub(crate) struct Place {
     line: usize,
     column: usize,
 }
 
 impl Place {
     // The place of a byte in a source, or of its end.
-    pub fn of(source: &[u8], at: usize) -> Place {
+    pub(crate) fn of(source: &[u8], at: usize) -> Place {
         let before = &source[..at.min(source.len())];
         let lines = before.iter().filter(|byte| **byte == b'\n').count();
         let columns = before

@@ -11,7 +11,7 @@ use layout::refusal::Refusal;
 use layout::workspace::Workspace;
 use std::io::{Read, Write};
 
-// The width's byte, and one byte more than the longest document has: more would not change the answer.
+// The width's byte, and one byte more than the longest document has: more would not change the answer. The program stands on the crate `layout` alone, and so the number stands here.
 const MOST_INPUT: u64 = 65_538;
 
 // Lays out what was read: a byte that is the width, and an encoded document.
@@ -19,9 +19,7 @@ fn lay_out(room: &mut Workspace, input: &[u8], out: &mut [u8]) -> Result<Laid, R
     ensures laid { InputSays input.now out.old result out.new }
     ensures within { IfOk result (λ laid. laid.length ≤ length out.old) }
 {
-    let Some((width, spelled)) = input.split_first() else {
-        return Err(Refusal::NotDocument);
-    };
+    let (width, spelled) = input.split_first().ok_or(Refusal::NotDocument)?;
     room.lay_out(spelled, u64::from(*width), out)
 }
 

@@ -5,6 +5,7 @@ use layout::workspace::Workspace;
 use std::alloc::{AllocError, Global};
 use std::test::*;
 
+// `compare` has calls like these, which count what is wrong, where a test has to fail.
 #[derive(Drop)]
 pub struct Desk {
     room: Workspace,
@@ -30,7 +31,6 @@ impl Desk {
         Ok(Desk { room, out })
     }
 
-    // Not by the calls of `compare`, which count what is wrong where a test fails.
     fn ask(&mut self, spelled: &[u8], width: u64) -> Reply {
         let out = self.out.as_mut_slice();
         out.fill(FILLED);
@@ -46,6 +46,7 @@ impl Desk {
         lines: u64,
     ) -> Result<(), Fail> {
         let reply = self.ask(spelled, width);
+        // By its methods and not by `==`, as they are tested, too.
         let told = matches!(reply, Reply::Lines(_))
             && reply.lines() == lines
             && reply.length() == layout.len();

@@ -2,6 +2,7 @@
 use crate::desk::Desk;
 use crate::sample;
 use crate::sample::{BEHIND, CALL};
+use layout::entry::MOST_WIDTH;
 use std::alloc::{AllocError, Global};
 use std::test::*;
 
@@ -15,13 +16,15 @@ pub fn longest(heap: Global) -> Result<Vec<u8>, AllocError> {
     line.as_slice().repeat(heap, 512)
 }
 
-// Width 255 is not too wide, and 256 is.
+// Width 255 is not too wide, and 256 is, as numbers and by the constant.
 #[test]
 fn widest(rt: HostRuntime) -> Result<(), Fail> {
     let mut desk = Desk::new(rt.alloc(), 100)?;
     desk.gives(BEHIND, 255, b"aaaa bcccc", 0)?;
     desk.refuses(BEHIND, 256, 2)?;
-    desk.refuses(BEHIND, u64::MAX, 2)
+    desk.refuses(BEHIND, u64::MAX, 2)?;
+    desk.gives(BEHIND, MOST_WIDTH, b"aaaa bcccc", 0)?;
+    desk.refuses(BEHIND, MOST_WIDTH + 1, 2)
 }
 
 // A layout of 131,072 bytes is not too long, and one of 131,073 is.

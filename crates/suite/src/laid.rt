@@ -47,6 +47,7 @@ struct Told {
 
 impl Watch for Told {
     fn ended(&mut self, stage: Stage) {
+        // A stage that is lost fails the comparison.
         let _ = self.stages.push(stage);
     }
 }

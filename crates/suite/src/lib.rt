@@ -13,6 +13,8 @@ mod keeping;
 mod laid;
 #[cfg(test)]
 mod refused;
+#[cfg(test)]
+mod room;
 pub mod sample;
 #[cfg(test)]
 mod worked;

@@ -1,6 +1,8 @@
 // What is no document, and what nearly is none.
 use crate::desk::Desk;
 use crate::sample;
+use doc::node::ReadError;
+use doc::nodes::Nodes;
 use std::test::*;
 
 // Each way of not being a document is refused with 1.
@@ -53,4 +55,17 @@ fn longest_encoding(rt: HostRuntime) -> Result<(), Fail> {
     let spelled = sample::groups(heap, 65_536)?;
     assert_eq!(rt; spelled.len(), 65_537);
     desk.refuses(spelled.as_slice(), 80, 1)
+}
+
+// What the reader answers where there is no document, and how it is printed.
+#[test]
+fn printed(rt: HostRuntime) -> Result<(), Fail> {
+    let heap = rt.alloc();
+    let mut nodes = Nodes::new(heap)?;
+    assert_eq!(rt; nodes.read(b"\x06"), Err(ReadError::NotDocument));
+    assert_eq!(rt;
+        ReadError::NotDocument.to_string(heap)?.as_str(),
+        "no document is encoded so"
+    );
+    Ok(())
 }

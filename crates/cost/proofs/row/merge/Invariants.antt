@@ -7,5 +7,6 @@ use Rattle.cost.proofs.row.merge.Given as goal
 abbrev pub invariant-loop-c : goal.invariant-loop-c
 invariant-loop-c g l =
     Replaced (taken l.flat l.reach l.initial.broken l.shift) l.initial.broken l.c l.broken
-    × (l.notes ≡ l.initial.notes ++ below (noted l.flat l.reach l.initial.broken l.shift) l.c)
-    × (length l.notes ≡ length l.initial.notes + l.c)
+    × (g.N.Pushed.items l.notes ≡ g.N.Pushed.items l.initial.notes ++ below (noted l.flat l.reach l.initial.broken l.shift) l.c)
+    × (length (g.N.Pushed.items l.notes) ≡ length (g.N.Pushed.items l.initial.notes) + l.c)
+    × (g.N.Pushed.room l.notes ≡ g.N.Pushed.room l.initial.notes)

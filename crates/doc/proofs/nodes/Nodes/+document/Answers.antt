@@ -4,10 +4,10 @@ use Rattle.doc.specs.Tags.{byte_of}
 use Rattle.doc.proofs.nodes.Nodes.+document.Goals as goal
 
 pub returns-in-Nil : goal.returns-in-Nil
-returns-in-Nil t c = let b = c.in_ok-tag.ensures in nil_read _ _ b.0 (b.1 ∙ ap byte_of c.in-Nil.is) _ _ c.add.ensures.items
+returns-in-Nil t c = let b = c.in_ok-tag.ensures in rw c.leaf.ensures.end (nil_read _ _ b.0 (b.1 ∙ ap byte_of c.in-Nil.is) _ _ c.leaf.ensures.items)
 
 pub returns-in-Line : goal.returns-in-Line
-returns-in-Line t c = let b = c.in_ok-tag.ensures in line_read _ _ b.0 (b.1 ∙ ap byte_of c.in-Line.is) _ _ c.add-in-Line.ensures.items
+returns-in-Line t c = let b = c.in_ok-tag.ensures in rw c.leaf-in-Line.ensures.end (line_read _ _ b.0 (b.1 ∙ ap byte_of c.in-Line.is) _ _ c.leaf-in-Line.ensures.items)
 
 pub returns-in_err-len-in-Text : goal.returns-in_err-len-in-Text
 returns-in_err-len-in-Text t c =
@@ -18,8 +18,8 @@ pub returns-in_ok-len-in-Text : goal.returns-in_ok-len-in-Text
 returns-in_ok-len-in-Text t c =
     let b = c.in_ok-tag.ensures in
     let x = c.in_ok-len-in-Text.ensures in
-    rw c.from.ensures
-    (text_read _ _ b.0 (b.1 ∙ ap byte_of c.in-Text.is) _ x.0 x.1 x.2 x.3 (omega arith) _ _ c.add-in-Text.ensures.items)
+    rw (c.leaf-in-Text.ensures.end, c.from.ensures)
+    (text_read _ _ b.0 (b.1 ∙ ap byte_of c.in-Text.is) _ x.0 x.1 x.2 x.3 (omega arith) _ _ c.leaf-in-Text.ensures.items)
 
 pub returns-in_err-middle-in-Cat : goal.returns-in_err-middle-in-Cat
 returns-in_err-middle-in-Cat t c =
