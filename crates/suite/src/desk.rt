@@ -31,6 +31,7 @@ impl Desk {
         Ok(Desk { room, out })
     }
 
+    // The document and the width are parameters as `set` has them, here and below.
     fn ask(&mut self, spelled: &[u8], width: u64) -> Reply {
         let out = self.out.as_mut_slice();
         out.fill(FILLED);
