@@ -89,6 +89,8 @@ impl<'a> Iterator for Lexemes<'a> {
 
     ghost remaining = { item_count tokens_left };
 
+    // Inlined, so that rules which a program has as a constant are known where a byte is held against them: not inlined, a byte of a word takes three times as long there.
+    #[inline(always)]
     fn next(&mut self) -> Option<Lexeme<'a>> {
         let (_, rest) = self.rest.split_at(blanks(self.rest));
         let (byte, behind) = rest.split_first()?;

@@ -1,7 +1,7 @@
 // The entry: an encoded document, a width and an output buffer in; the best layout in the buffer, or a refusal.
 ghost use Rattle.std.specs.Prelude.{◌≡◌, ◌<◌, ◌≤◌, ◌++◌, length, drop, IfOk, MatchOption};
 ghost use Rattle.doc.specs.Nodes.{RowOf};
-ghost use Rattle.layout.specs.Entry.{LaidOut, LaysOut, refusal, SetSays};
+ghost use Rattle.layout.specs.Entry.{LaidOut, LaysOut, refusal, reply_length, SetSays};
 
 use crate::laid::Laid;
 use crate::plan::Plan;
@@ -23,6 +23,8 @@ pub const MOST_WIDTH: u64 = u8::MAX as u64;
 fn narrow(width: u64) -> Option<u8>
     ensures { MatchOption result (255 < width) (λ w. (w ≡ width) × (width ≤ 255)) }
 {
+    // The check goes by the type, so the constant that callers read is held here: in a `const` item, no must-fail edit of it would reach the prover.
+    prove!(MOST_WIDTH == 255);
     u8::try_from(width).ok()
 }
 
@@ -103,7 +105,8 @@ impl Workspace {
 
 // The best layout of an encoded document at a width, or the first refusal that applies, in the form that was asked for.
 pub fn set(room: &mut Workspace, spelled: &[u8], width: u64, out: &mut [u8]) -> Reply
-    ensures { SetSays spelled.now width out.old (refusal spelled.now width (length out.old)) result out.new }
+    ensures says { SetSays spelled.now width out.old (refusal spelled.now width (length out.old)) result out.new }
+    ensures within { reply_length result ≤ length out.old }
 {
     room.lay_out(spelled, width, out).into()
 }
